@@ -1,0 +1,4 @@
+pub mod Bit
+pub mod Tally
+pub mod Alone
+pub mod Lowest
