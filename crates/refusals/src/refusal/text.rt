@@ -15,8 +15,10 @@ impl Refusal {
             Refusal::TooManyPaths => "64 paths are entered, and the book takes no more",
             Refusal::TooManyProducts => "the products would not fit the book's slots",
             Refusal::PulledPartOutsideMachine => "a pulled part is not a part of the machine",
-            Refusal::WorksListWrongLength => "the works list does not have one weight for each part",
-            Refusal::FailsListWrongLength => "the fails list does not have one weight for each part",
+            Refusal::WorksListWrongLength =>
+                "the works list does not have one weight for each part",
+            Refusal::FailsListWrongLength =>
+                "the fails list does not have one weight for each part",
             Refusal::NoSuchProduct => "the book has no product of that number",
             Refusal::NoSuchGroup => "the product has no lack group of that number",
             Refusal::ValueOutOfRange => "the value is outside what its measure allows",

@@ -1,0 +1,4 @@
+pub mod Product
+pub mod Law
+pub mod Places
+pub mod Cutting

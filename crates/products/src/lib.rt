@@ -1,0 +1,10 @@
+// Products of parts: what a kind of product offers and must show, and what can be done with every kind.
+mod kind;
+mod states;
+mod text;
+
+pub use kind::ProductKind;
+pub use states::holds;
+pub use states::pieces_that_hold;
+pub use text::Printed;
+pub use text::PrintedDisplay;
