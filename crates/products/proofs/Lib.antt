@@ -1,3 +1,4 @@
 pub mod Tidied
 pub mod Pieces
 mod Counts
+mod Cuttings
