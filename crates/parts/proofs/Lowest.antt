@@ -1,5 +1,6 @@
 -- The lowest part of a set is the first of its parts.
 use mathlib.Core.Path.{_≡_, refl, sym, ap, ap₂, subst, _∙_}
+use mathlib.Core.Logic.{_⊎_, inl, inr}
 use mathlib.Core.List.{List, [], _∷_, _++_, map}
 use Prim.Native.Nat.{ℕ, zero, suc, _+_, _-_, _*_, _/_, _%_, _^_, _≤_, _<_, min, max}
 use native.Mathlib.Omega.{arith}
@@ -7,7 +8,8 @@ use native.Mathlib.Nat.{pow-suc, add-zero}
 use lib.Bits.{bitAnd, bitOr, bitXor, and-zero-r, xor-zero-r}
 use lib.Count.{ones, ones-step, trailingZeros, under}
 use lib.ListN.{length, getD, take, drop}
-use Rattle.std.proofs.shelf.Bits.{one-shl, pow-below}
+use Rattle.std.proofs.shelf.Lists.{drop-all}
+use Rattle.std.proofs.shelf.Tests.{cases-lt}
 use Rattle.parts.specs.Sets.{bit, without, joined, parts}
 use Rattle.parts.proofs.Bit.{bit-lt, bit-without, without-half, without-low, same-set}
 use Rattle.parts.proofs.Alone.{double, lowest, partsOf, half-below, parts-are}
@@ -98,3 +100,11 @@ low-place (suc d) (suc k) n l p h =
 -- a set without the first of its parts has the others
 pub past-first : (n : ℕ) → 0 < n → n < 2 ^ 24 → parts (without n (getD (parts n) 0 0)) ≡ drop 1 (parts n)
 past-first n p h = ap (λ (x : ℕ). parts (without n x)) (low-part n p h) ∙ past-low n p h
+
+-- past the end of a list nothing more is dropped
+pub drop-capped : (xs : List ℕ) (k n : ℕ) → length xs ≤ n → drop (min k n) xs ≡ drop k xs
+drop-capped xs k n h = go (cases-lt k n)
+  where
+    go : (k < n) ⊎ (n ≤ k) → drop (min k n) xs ≡ drop k xs
+    go (inl l) = ap (λ (m : ℕ). drop m xs) (omega arith)
+    go (inr l) = drop-all (min k n) xs (omega arith) ∙ sym (drop-all k xs (omega arith))

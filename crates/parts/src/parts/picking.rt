@@ -43,7 +43,7 @@ impl PartSet {
         ensures { λ r. ⌜ parts (r .bits) ≡ drop k (parts (self .bits)) ⌝ }
     {
         let mut rest = self;
-        for _ in 0..k {
+        for _ in 0..k.min(24) {
             rest = rest.without_lowest();
         }
         rest
