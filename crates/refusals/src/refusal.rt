@@ -2,7 +2,7 @@
 pub mod number;
 pub mod text;
 
-#[derive(Clone, Copy, PartialEq, Eq, Debug)]
+#[derive(Clone, Copy, Debug)]
 pub enum Refusal {
     // Making a part count, a set or a part number.
     PartCountOutOfRange,

@@ -1,5 +1,6 @@
-// The number of each refusal.
+// The number of each refusal, by which two refusals are compared.
 ghost use mathlib.Core.Path.{_≡_};
+ghost use lib.Dec.{eqb};
 ghost use Rattle.refusals.specs.Numbers.{numberOf};
 use super::Refusal;
 
@@ -34,3 +35,13 @@ impl Refusal {
         }
     }
 }
+
+pub impl PartialEq<Refusal> for Refusal as RefusalPartialEq {
+    ghost equals = { λ x y r. r ≡ eqb (numberOf x) (numberOf y) };
+
+    fn eq(&self, other: &Refusal) -> bool {
+        self.number() == other.number()
+    }
+}
+
+pub impl Eq for Refusal as RefusalEq {}

@@ -1,5 +1,7 @@
 // The sentence of each refusal, for whoever works at the machine.
 use super::Refusal;
+use super::RefusalDebug;
+use std::error::Error;
 use std::fmt;
 
 impl Refusal {
@@ -38,3 +40,5 @@ pub impl fmt::Display for Refusal as RefusalDisplay {
         f.write_str(self.sentence())
     }
 }
+
+pub impl Error for Refusal as RefusalError {}
