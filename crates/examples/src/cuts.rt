@@ -1,4 +1,6 @@
 // Cutting paths off products, held to what the pieces are in print.
+use group::GroupProduct;
+use group::GroupProductKind;
 use parts::PartSet;
 use products::Printed;
 use products::PrintedDisplay;
@@ -30,7 +32,7 @@ fn cut_gives<K: ProductKind>(
 #[test]
 fn single_cuts(rt: LibcRuntime) -> Result<(), Fail> {
     let heap = rt.alloc();
-    let start: SingleProduct = SingleProduct::start(PartSet::new(0b00001)?);
+    let start = SingleProduct::start(PartSet::new(0b00001)?);
     let failed = start.piece(PartSet::new(0b00010)?, 0);
     cut_gives(heap, &start, 0b00010, &["{0} lack {1}"])?;
     cut_gives(
@@ -49,8 +51,25 @@ fn single_cuts(rt: LibcRuntime) -> Result<(), Fail> {
 
 #[test]
 fn states_of_pieces() -> Result<(), Fail> {
-    let start: SingleProduct = SingleProduct::start(PartSet::new(0b00001)?);
+    let start = SingleProduct::start(PartSet::new(0b00001)?);
     let path = PartSet::new(0b00110)?;
     check_eq(pieces_that_hold(&start, path, PartSet::new(0b00011)?), 1)?;
     check_eq(pieces_that_hold(&start, path, PartSet::new(0b00111)?), 0)
+}
+
+#[test]
+fn group_cuts(rt: LibcRuntime) -> Result<(), Fail> {
+    let heap = rt.alloc();
+    let start = GroupProduct::start(PartSet::new(0b00001)?);
+    let grouped = start.piece(PartSet::new(0b01110)?, 0);
+    cut_gives(heap, &start, 0b01110, &["{0} lack {1,2,3}"])?;
+    cut_gives(
+        heap,
+        &grouped,
+        0b10100,
+        &["{0} lack {2}", "{0,2} lack {1,3} {4}"],
+    )?;
+    cut_gives(heap, &grouped, 0b01100, &["{0} lack {2,3}"])?;
+    cut_gives(heap, &grouped, 0b11110, &["{0} lack {1,2,3}"])?;
+    cut_gives(heap, &grouped, 0b00001, &[])
 }

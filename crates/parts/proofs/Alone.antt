@@ -1,21 +1,20 @@
 -- The parts of a set, each alone, in rising number.
 use mathlib.Core.Path.{_≡_, refl, sym, ap, ap₂, subst, _∙_}
-use mathlib.Core.Bool.{Bool, true, false, not, _&&_, _||_, cond}
-use mathlib.Core.List.{List, [], _∷_, _++_, map}
-use Prim.Native.Nat.{ℕ, zero, suc, _+_, _-_, _*_, _/_, _%_, _^_, _≤_, _<_, min, max}
+use mathlib.Core.Bool.{Bool, true, false, not, _&&_, cond}
+use mathlib.Core.List.{List, [], _∷_, map}
+use Prim.Native.Nat.{ℕ, zero, suc, _+_, _*_, _/_, _%_, _^_, _≤_, _<_, min}
 use native.Mathlib.Nat.{pow-suc}
 use native.Mathlib.Omega.{arith}
 use lib.Bits.{bitAnd, bitOr, and-step, and-le-l}
 use lib.Dec.{eqb}
 use lib.Pow.{pow-pos}
-use Rattle.std.specs.Orderings.{Decides}
 use Rattle.std.specs.shelf.Lists.{All}
 use Rattle.std.proofs.shelf.Elements.{all-map, all-weaker}
-use Rattle.std.proofs.shelf.Ways.{same-from-decides, not-from-decides, decides-eqb, decides-like, decides-and, tells}
+use Rattle.std.proofs.shelf.Ways.{same-from-decides, decides-like, decides-and, tells}
 use Rattle.std.specs.Iters.{counting}
 use Rattle.std.specs.Runs.{kept-by}
-use Rattle.parts.specs.Sets.{bit, has, without, within, empty, joined, parts}
-use Rattle.parts.proofs.Bit.{In, Apart, bit-lt, bit-zero, bit-and, bit-or, bit-without, decides-within, decides-apart, same-set}
+use Rattle.parts.specs.Sets.{bit, has, within, empty, joined, parts}
+use Rattle.parts.proofs.Bit.{In, bit-lt, bit-zero, bit-or, decides-within, decides-apart, same-set}
 use Rattle.parts.proofs.Tally.{times, bit-joined}
 
 -- ---- the parts of a set by halves

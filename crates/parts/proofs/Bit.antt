@@ -1,17 +1,15 @@
 -- The digits of sets, and what they say of the operations on sets.
 use mathlib.Core.Path.{_≡_, refl, sym, ap, ap₂, _∙_}
-use mathlib.Core.Bool.{Bool, true, false, not, _&&_, _||_}
-use mathlib.Core.List.{List, [], _∷_, _++_, map}
+use mathlib.Core.Bool.{true, false, _&&_}
 use Prim.Native.Nat.{ℕ, zero, suc, _+_, _-_, _*_, _/_, _%_, _^_, _≤_, _<_, min, max, differ}
 use native.Mathlib.Omega.{arith}
 use native.Mathlib.Numerals.{one-add}
 use lib.Arith.{bin-ind}
 use Rattle.std.proofs.shelf.Bits.{shr-shr}
 use lib.Bits.{bitAnd, bitOr, bitXor, and-step, or-step, xor-step}
-use lib.Dec.{eqb}
 use Rattle.std.specs.Orderings.{Decides}
 use Rattle.std.proofs.shelf.Ways.{same-from-decides, not-from-decides, decides-eqb, decides-like, decides-and}
-use Rattle.parts.specs.Sets.{bit, without, within, empty, joined}
+use Rattle.parts.specs.Sets.{bit, without, within, empty}
 
 pub bit-lt : (n i : ℕ) → bit n i < 2
 bit-lt n zero = omega arith
@@ -128,6 +126,9 @@ rest-pos a b h = go (without a b) refl
         absurd (not-from-decides (within a b) (decides-within a b) h
         (λ i. omega (arith, bit-without a b i, ap (λ (x : ℕ). bit x i) e, bit-zero i)))
     go (suc n) e = omega arith
+
+pub without-zero : (a : ℕ) → without a 0 ≡ a
+without-zero a = same-set _ _ (λ i. omega (arith, bit-without a 0 i, bit-zero i))
 
 -- a set within one below 2 ^ k is below it
 pub in-below : (k a b : ℕ) → In a b → b < 2 ^ k → a < 2 ^ k

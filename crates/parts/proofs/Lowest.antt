@@ -1,17 +1,16 @@
 -- The lowest part of a set is the first of its parts.
-use mathlib.Core.Path.{_≡_, refl, sym, ap, ap₂, subst, _∙_}
+use mathlib.Core.Path.{_≡_, refl, sym, ap, ap₂, _∙_}
 use mathlib.Core.Logic.{_⊎_, inl, inr}
-use mathlib.Core.List.{List, [], _∷_, _++_, map}
-use Prim.Native.Nat.{ℕ, zero, suc, _+_, _-_, _*_, _/_, _%_, _^_, _≤_, _<_, min, max}
+use mathlib.Core.List.{List, [], _∷_, map}
+use Prim.Native.Nat.{ℕ, zero, suc, _+_, _-_, _/_, _%_, _^_, _≤_, _<_, min}
 use native.Mathlib.Omega.{arith}
-use native.Mathlib.Nat.{pow-suc, add-zero}
-use lib.Bits.{bitAnd, bitOr, bitXor, and-zero-r, xor-zero-r}
+use native.Mathlib.Nat.{pow-suc}
 use lib.Count.{ones, ones-step, trailingZeros, under}
-use lib.ListN.{length, getD, take, drop}
+use lib.ListN.{length, getD, drop}
 use Rattle.std.proofs.shelf.Lists.{drop-all}
 use Rattle.std.proofs.shelf.Tests.{cases-lt}
-use Rattle.parts.specs.Sets.{bit, without, joined, parts}
-use Rattle.parts.proofs.Bit.{bit-lt, bit-without, without-half, without-low, same-set}
+use Rattle.parts.specs.Sets.{without, parts}
+use Rattle.parts.proofs.Bit.{without-zero, without-half, without-low}
 use Rattle.parts.proofs.Alone.{double, lowest, partsOf, half-below, parts-are}
 
 length-double : (xs : List ℕ) → length (map double xs) ≡ length xs
@@ -50,9 +49,6 @@ first-part (suc d) (suc k) n l p h =
     go : (b t : ℕ) (xs : List ℕ) → (b ≡ 0 → getD xs 0 0 ≡ 2 ^ t) → getD (lowest b (map double xs)) 0 0 ≡ 2 ^ under b t
     go zero t xs ih = first-double xs ∙ ap double (ih refl) ∙ sym (pow-suc 2 t)
     go (suc b) t xs ih = refl
-
-without-zero : (a : ℕ) → without a 0 ≡ a
-without-zero a = ap (bitXor a) (and-zero-r a) ∙ xor-zero-r a
 
 pub rest-parts : (d k n : ℕ) → d ≤ k → 0 < n → n < 2 ^ d → partsOf d (without n (2 ^ trailingZeros k n)) ≡ drop 1 (partsOf d n)
 unfolding trailingZeros

@@ -1,9 +1,14 @@
 // The bridge: five parts, and four paths on which it delivers.
+use parts::PartCount;
 use parts::PartNumber;
 use parts::PartSet;
 use refusals::Refusal;
 
-pub fn paths() -> Result<[PartSet; 4], Refusal> {
+pub(crate) fn part_count() -> Result<PartCount, Refusal> {
+    PartCount::new(5)
+}
+
+pub(crate) fn paths() -> Result<[PartSet; 4], Refusal> {
     Ok([
         set_of(&[0, 1])?,
         set_of(&[2, 3])?,

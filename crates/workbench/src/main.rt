@@ -2,6 +2,7 @@
 mod bridge;
 mod report;
 
+use group::GroupProductKind;
 use parts::PartSet;
 use products::ProductKind;
 use products::new_products;
@@ -14,9 +15,12 @@ fn main(rt: LibcRuntime) -> Result<(), AnyError> {
 }
 
 fn run(rt: &LibcRuntime) -> Result<(), AnyError> {
+    let parts = bridge::part_count()?.count();
     let paths = bridge::paths()?;
+    let entered = paths.len();
+    println!(rt, "the bridge: {parts} parts, {entered} paths")?;
     work_through::<SingleProductKind>(rt, "single", &paths)?;
-    Ok(())
+    work_through::<GroupProductKind>(rt, "group", &paths)
 }
 
 // Each path in turn brings its new products; at the end stand all of them.

@@ -7,7 +7,7 @@ use products::ProductKind;
 use std::io;
 
 // The path, and the earlier ones that are cut off.
-pub fn print_path(rt: &LibcRuntime, path: PartSet, earlier: &[PartSet]) -> io::Result<()> {
+pub(crate) fn print_path(rt: &LibcRuntime, path: PartSet, earlier: &[PartSet]) -> io::Result<()> {
     print!(rt, "path {path}")?;
     if !earlier.is_empty() {
         print!(rt, " without")?;
@@ -19,7 +19,7 @@ pub fn print_path(rt: &LibcRuntime, path: PartSet, earlier: &[PartSet]) -> io::R
 }
 
 // One line for each product, numbered from `first` on.
-pub fn print_products<K: ProductKind>(
+pub(crate) fn print_products<K: ProductKind>(
     rt: &LibcRuntime,
     first: usize,
     products: &[K],

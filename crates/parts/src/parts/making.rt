@@ -1,6 +1,6 @@
 // One checking call makes each of the three types from a plain number.
 ghost use mathlib.Core.Path.{_≡_};
-ghost use Prim.Native.Nat.{_^_, _<_, _≤_};
+ghost use Prim.Native.Nat.{_<_};
 ghost use Rattle.parts.specs.Limits.{PartCountLimit, PartNumberLimit, PartSetLimit};
 ghost use Rattle.refusals.specs.Checked.{Checked};
 ghost use Rattle.refusals.specs.declared.refusal.Refusal.the-variants.{PartCountOutOfRange, PartNumberOutOfRange, PartSetOutOfRange};

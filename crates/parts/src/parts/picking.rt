@@ -1,6 +1,6 @@
 // Counting the parts of a set, and picking them in rising number.
 ghost use mathlib.Core.Path.{_≡_};
-ghost use Prim.Native.Nat.{ℕ, _≤_};
+ghost use Prim.Native.Nat.{_≤_};
 ghost use lib.ListN.{length, drop};
 ghost use Rattle.parts.specs.Picks.{Lowest};
 ghost use Rattle.parts.specs.Sets.{parts};

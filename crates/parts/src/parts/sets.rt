@@ -1,6 +1,6 @@
 // What can be asked of sets of parts, and the sets made from two others.
 ghost use mathlib.Core.Path.{_≡_};
-ghost use Prim.Native.Nat.{ℕ, _^_};
+ghost use Prim.Native.Nat.{_^_};
 ghost use lib.Bits.{bitAnd, bitOr};
 ghost use Rattle.parts.specs.Sets.{has, within, without, empty};
 use super::PartNumber;

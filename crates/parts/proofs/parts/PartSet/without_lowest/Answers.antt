@@ -1,5 +1,4 @@
 use mathlib.Core.Path.{ap, sym, _∙_}
-use Prim.Native.Nat.{ℕ}
 use lib.ListN.{drop}
 use Rattle.parts.specs.Sets.{without, parts}
 use Rattle.parts.proofs.Lowest.{parts-none, past-first}
