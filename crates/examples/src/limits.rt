@@ -7,32 +7,32 @@ use refusals::RefusalDebug;
 use refusals::RefusalDisplay;
 use std::test::*;
 
-// The number of the refusal, or 0 where the value is made.
-fn refused<T: Drop>(made: Result<T, Refusal>) -> u8 {
+// The number of the refusal, if the value is refused.
+fn refused<T: Drop>(made: Result<T, Refusal>) -> Option<u8> {
     match made {
-        Ok(_) => 0,
-        Err(refusal) => refusal.number(),
+        Ok(_) => None,
+        Err(refusal) => Some(refusal.number()),
     }
 }
 
 #[test]
 fn part_counts() -> Result<(), Fail> {
     check_eq(PartCount::new(24)?.count(), 24)?;
-    check_eq(refused(PartCount::new(1)), 0)?;
-    check_eq(refused(PartCount::new(0)), 11)?;
-    check_eq(refused(PartCount::new(25)), 11)
+    check_eq(refused(PartCount::new(1)), None)?;
+    check_eq(refused(PartCount::new(0)), Some(11))?;
+    check_eq(refused(PartCount::new(25)), Some(11))
 }
 
 #[test]
 fn part_sets() -> Result<(), Fail> {
     check_eq(PartSet::new(16_777_215)?.count(), 24)?;
-    check_eq(refused(PartSet::new(16_777_216)), 12)
+    check_eq(refused(PartSet::new(16_777_216)), Some(12))
 }
 
 #[test]
 fn part_numbers() -> Result<(), Fail> {
     check_eq(PartNumber::new(23)?.index(), 23)?;
-    check_eq(refused(PartNumber::new(24)), 13)
+    check_eq(refused(PartNumber::new(24)), Some(13))
 }
 
 #[test]
