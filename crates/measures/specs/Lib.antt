@@ -1,0 +1,3 @@
+pub mod Semiring
+pub mod Kept
+pub mod Lists
