@@ -1,0 +1,4 @@
+-- What the proofs on lives rest on.
+mod BitOrder
+mod Laws
+mod Calls

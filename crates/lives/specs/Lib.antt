@@ -1,0 +1,2 @@
+-- What the contracts on lives cite.
+pub mod Lives
