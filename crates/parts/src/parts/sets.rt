@@ -2,7 +2,9 @@
 ghost use mathlib.Core.Path.{_≡_};
 ghost use Prim.Native.Nat.{_^_};
 ghost use lib.Bits.{bitAnd, bitOr};
+ghost use lib.Dec.{ltb};
 ghost use Rattle.parts.specs.Sets.{has, within, without, empty};
+use super::PartCount;
 use super::PartNumber;
 use super::PartSet;
 
@@ -42,6 +44,13 @@ impl PartSet {
         ensures { λ r. ⌜ r ≡ within (self .bits) (other .bits) ⌝ }
     {
         self.bits & other.bits == self.bits
+    }
+
+    // Are all parts of the set parts of a machine of that many parts?
+    pub fn is_below(self, count: PartCount) -> bool
+        ensures { λ r. ⌜ r ≡ ltb (self .bits) (2 ^ count .count) ⌝ }
+    {
+        self.bits < 1 << count.count
     }
 
     // The parts that both sets have.
