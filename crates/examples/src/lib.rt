@@ -1,4 +1,6 @@
-// Worked examples, run as tests: the limits of the checked types, cuts of both kinds, and values of measures.
+// Worked examples, run as tests: the limits of the checked types, cuts of both kinds, values of measures, and books.
+#[cfg(test)]
+mod books;
 #[cfg(test)]
 mod cuts;
 #[cfg(test)]
