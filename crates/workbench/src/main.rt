@@ -1,5 +1,6 @@
 // The workbench: works through the bridge in both kinds of product and prints what comes of each path.
 mod bridge;
+mod history;
 mod report;
 
 use group::GroupProductKind;
@@ -15,12 +16,15 @@ fn main(rt: LibcRuntime) -> Result<(), AnyError> {
 }
 
 fn run(rt: &LibcRuntime) -> Result<(), AnyError> {
-    let parts = bridge::part_count()?.count();
+    let count = bridge::part_count()?;
+    let parts = count.count();
     let paths = bridge::paths()?;
     let entered = paths.len();
     println!(rt, "the bridge: {parts} parts, {entered} paths")?;
     work_through::<SingleProductKind>(rt, "single", &paths)?;
-    work_through::<GroupProductKind>(rt, "group", &paths)
+    history::run::<SingleProductKind>(rt, count, &paths)?;
+    work_through::<GroupProductKind>(rt, "group", &paths)?;
+    history::run::<GroupProductKind>(rt, count, &paths)
 }
 
 // Each path in turn brings its new products; at the end stand all of them.
