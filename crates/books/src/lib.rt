@@ -1,4 +1,6 @@
 // The book: paths are entered into it, and its slots hold the disjoint products of the states that contain one.
+#![tactic(auto)]
+
 mod book;
 
 pub use book::{OpenBook, SealedBook};

@@ -1,4 +1,6 @@
 // The card of a machine: what its mechanic has noted on it, and trials that leave it as it was.
+#![tactic(auto)]
+
 mod card;
 mod trial;
 mod trying;

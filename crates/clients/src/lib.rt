@@ -1,4 +1,6 @@
 // Whole histories of a book: a client asks for steps one after the other over real slots, and is shown the answer of each.
+#![tactic(auto)]
+
 mod client;
 mod history;
 

@@ -1,5 +1,7 @@
 // The workbench: reads lines from standard input, each a command for a book, and answers them one by one. A line that
 // says nothing known gets an answer too, and the next one is read.
+#![tactic(auto)]
+
 mod answers;
 mod command;
 mod desk;

@@ -1,4 +1,6 @@
 // Worked examples, run as tests: the limits of the checked types, cuts of both kinds, values of measures, and books.
+#![tactic(auto)]
+
 #[cfg(test)]
 mod books;
 #[cfg(test)]

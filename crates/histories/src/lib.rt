@@ -1,4 +1,6 @@
 // What a book comes to by its history: the steps of a book, and what holds after each of them.
+#![tactic(auto)]
+
 ghost use Rattle.histories.specs.Sound.{HistoriesHold};
 
 use products::ProductKind;

@@ -1,4 +1,6 @@
 // Measures: what the worth of a state can be, with a sum and a product that keep the laws of arithmetic.
+#![tactic(auto)]
+
 mod lists;
 mod measure;
 mod pair;

@@ -1,4 +1,6 @@
 // Measures over whole numbers: counts that stop at a cap, and residues.
+#![tactic(auto)]
+
 mod count;
 mod residue;
 

@@ -1,4 +1,6 @@
 // Parts of a machine: how many there are, one of them, and a set of them, each within its limit.
+#![tactic(auto)]
+
 mod parts;
 
 pub use parts::{PartCount, PartNumber, PartSet};

@@ -1,4 +1,6 @@
 // Products of parts: what a kind of product offers and must show, and what can be done with every kind.
+#![tactic(auto)]
+
 mod cutting;
 mod kind;
 mod states;

@@ -1,3 +1,5 @@
 // Worked examples of readings, run as tests.
+#![tactic(auto)]
+
 #[cfg(test)]
 mod readings;

@@ -1,4 +1,6 @@
 // Readings of a sealed book: worths, the covered count, and the products by their must sets and lack groups.
+#![tactic(auto)]
+
 mod covered;
 mod lists;
 mod product;

@@ -1,4 +1,6 @@
 // Whole histories of a book: steps one after the other over real slots, with the answer of each.
+#![tactic(auto)]
+
 mod history;
 mod stage;
 

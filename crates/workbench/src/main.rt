@@ -1,4 +1,6 @@
 // The workbench: works through the bridge in both kinds of product and prints what comes of each path.
+#![tactic(auto)]
+
 mod bridge;
 mod history;
 mod report;
