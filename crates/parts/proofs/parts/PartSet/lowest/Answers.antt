@@ -2,8 +2,8 @@ use Rattle.std.proofs.Common.{◌<◌, sym, arith}
 use Rattle.parts.proofs.Lowest.{low_place, low_part}
 use Rattle.parts.proofs.parts.PartSet.lowest.Goals as goal
 
-pub invariant-of-result : goal.invariant-of-result
-invariant-of-result c =
+pub invariant_of-result : goal.invariant_of-result
+invariant_of-result c =
     let n = c.args.self.bits in
     let some : 0 < n = omega (arith, c.if-self-eq0.false) in
     (low_place 24 32 n (omega arith) some c.args.self.limit, tt)

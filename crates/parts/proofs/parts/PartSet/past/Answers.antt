@@ -7,7 +7,7 @@ use Rattle.parts.proofs.parts.PartSet.past.Goals as goal
 
 pub loop-preserved : goal.loop-preserved
 loop-preserved c =
-    c.without-lowest-rest.ensures ∙ ap (drop 1) c.loop.invariant ∙ drop-drop 1 c.loop.counter (parts c.args.self.bits)
+    c.without_lowest-rest.ensures ∙ ap (drop 1) c.loop.invariant ∙ drop-drop 1 c.loop.counter (parts c.args.self.bits)
 
 pub returns : goal.returns
 returns c =
