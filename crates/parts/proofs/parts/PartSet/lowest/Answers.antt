@@ -6,7 +6,7 @@ pub invariant_of-result : goal.invariant_of-result
 invariant_of-result c =
     let n = c.args.self.bits in
     let some : 0 < n = omega (arith, c.if-self-eq0.false) in
-    (low_place 24 32 n (omega arith) some c.args.self.limit, tt)
+    record { limit = low_place 24 32 n (omega arith) some c.args.self.limit }
 
 pub returns : goal.returns
 returns c =
