@@ -17,10 +17,10 @@ pub fn replay<'a, K: ProductKind>(
     work: &mut [K],
     steps: &mut [HistoryStep],
 ) -> Stage<'a, K>
-    ensures book { book_of meaning result ≡ after cut (making parts.count (length slots.old)) (calls_of (length work.old) steps.old) }
-    ensures answers { map answer_of steps.new ≡ outcomes cut (making parts.count (length slots.old)) (calls_of (length work.old) steps.old) }
+    ensures book { book_of K.meaning result ≡ after K.cut (making parts.count (length slots.old)) (calls_of (length work.old) steps.old) }
+    ensures answers { map answer_of steps.new ≡ outcomes K.cut (making parts.count (length slots.old)) (calls_of (length work.old) steps.old) }
     ensures orders { map order_of steps.new ≡ map order_of steps.old }
-    ensures law { SoundAlong cut (making parts.count (length slots.old)) (calls_of (length work.old) steps.old) }
+    ensures law { SoundAlong K.cut (making parts.count (length slots.old)) (calls_of (length work.old) steps.old) }
     ensures through { through_of result ≡ slots.entry.ghost_name }
 {
     let mut stage = Stage::Open(OpenBook::new(parts, slots));

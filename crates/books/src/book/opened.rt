@@ -10,8 +10,8 @@ use products::ProductKind;
 impl<'a, K: ProductKind> OpenBook<'a, K> {
     // A book without a path, over the slots lent.
     pub fn new(parts: PartCount, slots: &'a mut [K]) -> OpenBook<'a, K>
-        ensures made { open_book meaning result ≡ making parts.count (length slots.old) }
-        ensures history { History cut (open_book meaning result) }
+        ensures made { open_book K.meaning result ≡ making parts.count (length slots.old) }
+        ensures history { History K.cut (open_book K.meaning result) }
         ensures slots { result.slots.now ≡ slots.old }
         ensures space { open_space result ≡ lent slots.old }
         ensures through { result.slots.ghost_name ≡ slots.entry.ghost_name }
@@ -27,15 +27,15 @@ impl<'a, K: ProductKind> OpenBook<'a, K> {
 
     // The number of entered paths and the number of products.
     pub fn counts(&self) -> (usize, usize)
-        ensures paths { result.0 ≡ length (open_book meaning self.now).paths }
-        ensures products { result.1 ≡ length (open_book meaning self.now).products }
+        ensures paths { result.0 ≡ length (open_book K.meaning self.now).paths }
+        ensures products { result.1 ≡ length (open_book K.meaning self.now).products }
     {
         (self.path_count, self.product_count)
     }
 
     pub fn seal(self) -> SealedBook<'a, K>
-        ensures step { Step cut (open_book meaning self.entry) seal (Ok tt) (sealed_book meaning result) }
-        ensures history { History cut (open_book meaning self.entry) → History cut (sealed_book meaning result) }
+        ensures step { Step K.cut (open_book K.meaning self.entry) seal (Ok tt) (sealed_book K.meaning result) }
+        ensures history { History K.cut (open_book K.meaning self.entry) → History K.cut (sealed_book K.meaning result) }
         ensures slots { result.slots.now ≡ self.entry.slots.now }
         ensures space { sealed_space result ≡ open_space self.entry }
         ensures through { result.slots.ghost_name ≡ self.entry.slots.ghost_name }

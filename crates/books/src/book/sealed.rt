@@ -10,8 +10,8 @@ use products::ProductKind;
 impl<'a, K: ProductKind> SealedBook<'a, K> {
     // The number of entered paths and the number of products.
     pub fn counts(&self) -> (usize, usize)
-        ensures paths { result.0 ≡ length (sealed_book meaning self.now).paths }
-        ensures products { result.1 ≡ length (sealed_book meaning self.now).products }
+        ensures paths { result.0 ≡ length (sealed_book K.meaning self.now).paths }
+        ensures products { result.1 ≡ length (sealed_book K.meaning self.now).products }
     {
         (self.path_count, self.product_count)
     }
@@ -32,8 +32,8 @@ impl<'a, K: ProductKind> SealedBook<'a, K> {
     }
 
     pub fn reopen(self) -> OpenBook<'a, K>
-        ensures step { Step cut (sealed_book meaning self.entry) reopen (Ok tt) (open_book meaning result) }
-        ensures history { History cut (sealed_book meaning self.entry) → History cut (open_book meaning result) }
+        ensures step { Step K.cut (sealed_book K.meaning self.entry) reopen (Ok tt) (open_book K.meaning result) }
+        ensures history { History K.cut (sealed_book K.meaning self.entry) → History K.cut (open_book K.meaning result) }
         ensures slots { result.slots.now ≡ self.entry.slots.now }
         ensures space { open_space result ≡ sealed_space self.entry }
         ensures through { result.slots.ghost_name ≡ self.entry.slots.ghost_name }

@@ -11,8 +11,8 @@ use products::ProductKind;
 impl<'a, K: ProductKind> Stage<'a, K> {
     // The number of entered paths and the number of products.
     pub fn counts(&self) -> (usize, usize)
-        ensures paths { result.0 ≡ length (book_of meaning self.now).paths }
-        ensures products { result.1 ≡ length (book_of meaning self.now).products }
+        ensures paths { result.0 ≡ length (book_of K.meaning self.now).paths }
+        ensures products { result.1 ≡ length (book_of K.meaning self.now).products }
     {
         match self {
             Stage::Open(book) => book.counts(),
@@ -22,8 +22,8 @@ impl<'a, K: ProductKind> Stage<'a, K> {
 
     // The book after the step; its answer goes to `outcome`. What the book does not allow leaves it as it is.
     pub fn step(self, order: Order, work: &mut [K], outcome: &mut Outcome) -> Stage<'a, K>
-        ensures next { book_of meaning result ≡ next cut (book_of meaning self.entry) (call_of (length work.old) order) }
-        ensures outcome { outcome.new ≡ answered cut (book_of meaning self.entry) (call_of (length work.old) order) }
+        ensures next { book_of K.meaning result ≡ next K.cut (book_of K.meaning self.entry) (call_of (length work.old) order) }
+        ensures outcome { outcome.new ≡ answered K.cut (book_of K.meaning self.entry) (call_of (length work.old) order) }
         ensures through { through_of result ≡ through_of self.entry }
     {
         match self {
@@ -39,8 +39,8 @@ fn step_open<'a, K: ProductKind>(
     work: &mut [K],
     outcome: &mut Outcome,
 ) -> Stage<'a, K>
-    ensures next { book_of meaning result ≡ next cut (open_book meaning book.entry) (call_of (length work.old) order) }
-    ensures outcome { outcome.new ≡ answered cut (open_book meaning book.entry) (call_of (length work.old) order) }
+    ensures next { book_of K.meaning result ≡ next K.cut (open_book K.meaning book.entry) (call_of (length work.old) order) }
+    ensures outcome { outcome.new ≡ answered K.cut (open_book K.meaning book.entry) (call_of (length work.old) order) }
     ensures through { through_of result ≡ book.entry.slots.ghost_name }
 {
     let mut book = book;
@@ -68,8 +68,8 @@ fn step_sealed<'a, K: ProductKind>(
     order: Order,
     outcome: &mut Outcome,
 ) -> Stage<'a, K>
-    ensures next { (places : ℕ) → book_of meaning result ≡ next cut (sealed_book meaning book.entry) (call_of places order) }
-    ensures outcome { (places : ℕ) → outcome.new ≡ answered cut (sealed_book meaning book.entry) (call_of places order) }
+    ensures next { (places : ℕ) → book_of K.meaning result ≡ next K.cut (sealed_book K.meaning book.entry) (call_of places order) }
+    ensures outcome { (places : ℕ) → outcome.new ≡ answered K.cut (sealed_book K.meaning book.entry) (call_of places order) }
     ensures through { through_of result ≡ book.entry.slots.ghost_name }
 {
     match order {

@@ -15,17 +15,17 @@ first_trial : (k : Card) (parts : List PartNumber) (p : PartNumber) → 0 < leng
 first_trial k [] p h e = absurd (omega arith)
 first_trial k (q ∷ ps) p h e = ap (λ x. fold pulling (pulling k x) ps) e
 
-pub returns-then-is-empty : goal.returns-then-is-empty
-returns-then-is-empty t c =
-    record { same = refl; value = no_trial c.args.card.now c.args.parts.now (eqb-true _ _ (sym c.if-is-empty.ensures)) }
+pub returns-then-is_empty : goal.returns-then-is_empty
+returns-then-is_empty t c =
+    record { same = refl; value = no_trial c.args.card.now c.args.parts.now (eqb-true _ _ (sym c.if-is_empty.ensures)) }
 
 pub returns : goal.returns
 returns t c =
     let parts = c.args.parts.now in
-    let some : 0 < length parts = let ne = eqb-false (length parts) 0 (sym c.if-is-empty.ensures) in omega arith in
+    let some : 0 < length parts = let ne = eqb-false (length parts) 0 (sym c.if-is_empty.ensures) in omega arith in
     let rest = take_all (length parts - 1) (drop 1 parts) (simp length-drop (omega arith)) in
     record {
       same = search rules;
-      value = c.card-on-trials.ensures.value ∙ ap (fold pulling c.new-trial.result.card.now) rest ∙ ap (λ k. fold pulling k (drop 1 parts)) c.new-trial.ensures.pulled
+      value = c.card_on_trials.ensures.value ∙ ap (fold pulling c.new-trial.result.card.now) rest ∙ ap (λ k. fold pulling k (drop 1 parts)) c.new-trial.ensures.pulled
           ∙ first_trial c.args.card.now parts c.index-parts-0.result some c.index-parts-0.is;
     }

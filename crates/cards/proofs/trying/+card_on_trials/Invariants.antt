@@ -1,5 +1,5 @@
 use Rattle.std.proofs.Common.{length}
 use Rattle.cards.proofs.trying.+card_on_trials.Given as goal
 
-abbrev pub decreases-card-on-trials : goal.decreases-card-on-trials
-decreases-card-on-trials l = length l.parts.now
+abbrev pub decreases-card_on_trials : goal.decreases-card_on_trials
+decreases-card_on_trials l = length l.parts.now

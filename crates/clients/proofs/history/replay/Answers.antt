@@ -29,7 +29,7 @@ loop-preserved g c =
     let items = vec_items l.steps in
     let more : vec_items c.record.new.steps ≡ items ++ (step ∷ []) = c.record.ensures.items ∙ ap (λ xs. xs ++ (step ∷ [])) c.reserve.ensures.items in
     let asked = subst (λ r. asks l.client items r c.ask.new.self) c.in-Some.is
-    (subst (λ xs. asks l.client xs c.ask.result c.ask.new.self) (c.as-slice.ensures.value ∙ c.reserve.ensures.items) c.ask.ensures) in (
+    (subst (λ xs. asks l.client xs c.ask.result c.ask.new.self) (c.as_slice.ensures.value ∙ c.reserve.ensures.items) c.ask.ensures) in (
       led_on measure.semiring measure.meaning kind.cut kind.meaning (length c.args.work.now) _ l.stage c.step-stage.result items (vec_items c.record.new.steps) step l.invariant.0 more
           (c.step-stage.ensures.next ∙ ap (λ (n : ℕ). next kind.cut before (ask_of n order)) l.auto.work)
           (c.step-stage.ensures.report l.invariant.0.past ∙ ap (λ (n : ℕ). telling measure.semiring measure.meaning kind.cut before (ask_of n order)) l.auto.work)
@@ -54,7 +54,7 @@ returns-in-default g c =
         last = l.client;
         asking = subst (λ xs. Asking asks c.args.client.now xs l.client) (sym same) l.invariant.1;
         ended = subst (λ r. asks l.client (vec_items c.reserve.new.self) r c.ask.new.self) c.in-default.is
-            (subst (λ xs. asks l.client xs c.ask.result c.ask.new.self) c.as-slice.ensures.value c.ask.ensures);
+            (subst (λ xs. asks l.client xs c.ask.result c.ask.new.self) c.as_slice.ensures.value c.ask.ensures);
       };
       through = l.invariant.0.through ∙ new.through;
     }
@@ -64,8 +64,8 @@ failed : {T E : Type 0} (P Q : Type 0) (r : Result T E) → MatchResult r (λ _.
 failed P Q (Ok x) h e = absurd (let z : ◌≡◌ {A = ℕ} 0 1 = cc in omega arith)
 failed P Q (Err x) h e = h
 
-pub returns-then-is-err : goal.returns-then-is-err
-returns-then-is-err g c =
+pub returns-then-is_err : goal.returns-then-is_err
+returns-then-is_err g c =
     let measure = g.V.Measure in
     let kind = g.K.ProductKind in
     let n = c.args.parts in
@@ -74,7 +74,7 @@ returns-then-is-err g c =
     let same = c.reserve.ensures.items in
     let same_length = ap length same in
     let none : vec_capacity l.steps < vec_len l.steps + 1 =
-    failed (vec_len c.reserve.new.self + 1 ≤ vec_capacity c.reserve.new.self) (vec_capacity l.steps < vec_len l.steps + 1) c.reserve.result c.reserve.ensures.cases (sym c.if-is-err.ensures.value) in
+    failed (vec_len c.reserve.new.self + 1 ≤ vec_capacity c.reserve.new.self) (vec_capacity l.steps < vec_len l.steps + 1) c.reserve.result c.reserve.ensures.cases (sym c.if-is_err.ensures.value) in
     record {
       replayed = led_replayed measure.semiring measure.meaning kind.cut kind.meaning _ g.met.K.ProductKind.lawful g.met.V.Measure.lawful n.count c.args.slots.now _ _ _ _ n.limit new.made new.space same l.invariant.0;
       asked = record {

@@ -4,15 +4,15 @@ use Rattle.readings.specs.Held.{held}
 use Rattle.readings.proofs.Products.{read_found, read_none}
 use Rattle.readings.proofs.product.read_group_count.Goals as goal
 
-pub returns-in-err-product : goal.returns-in-err-product
-returns-in-err-product g c =
+pub returns-in_err-product : goal.returns-in_err-product
+returns-in_err-product g c =
     let p = err_from_is_err_and c.from-residual.result c.from-residual.ensures.1 in
-    let none = c.in-err-product.ensures in
+    let none = c.in_err-product.ensures in
     rw (p.1, p.2) (ap Err none.0 ∙ read_none g.K.ProductKind.meaning (held c.args.book.now) c.args.k (λ p. Ok (length p.groups)) none.1)
 
 pub returns : goal.returns
 returns g c =
-    let found = c.in-ok-product.ensures in
-    let x = c.in-ok-product.product.now in
-    ap Ok c.group-count.ensures
+    let found = c.in_ok-product.ensures in
+    let x = c.in_ok-product.product.now in
+    ap Ok c.group_count.ensures
     ∙ read_found g.K.ProductKind.meaning (held c.args.book.now) c.args.k (λ p. Ok (length p.groups)) x found.0 found.1
