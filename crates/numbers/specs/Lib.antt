@@ -1,5 +1,6 @@
 pub mod Limits
 pub mod Counts
 pub mod Residues
+pub mod Equal
 pub mod CountLaws
 pub mod ResidueLaws
