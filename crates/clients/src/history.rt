@@ -32,8 +32,8 @@ pub fn replay<'a, K: ProductKind, V: Measure, C: Client<V>>(
     steps: &mut Vec<HistoryStep<V>>,
     ending: &mut Ending,
 ) -> Stage<'a, K>
-    ensures replayed { Replayed V.Measure.semiring V.Measure.meaning K.ProductKind.cut K.ProductKind.meaning parts.count slots.old (length work.old) steps.new.items result }
-    ensures asked { AskedFor C.Client.asks client.old steps.new.items (vec_capacity steps.old) ending.new client.new }
+    ensures replayed { Replayed V.semiring V.meaning K.cut K.meaning parts.count slots.old (length work.old) steps.new.items result }
+    ensures asked { AskedFor C.asks client.old steps.new.items (vec_capacity steps.old) ending.new client.new }
     ensures through { through_of result ≡ slots.entry.ghost_name }
 {
     steps.clear();

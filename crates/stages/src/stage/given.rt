@@ -21,7 +21,7 @@ pub(crate) fn read<K: ProductKind, V: Measure>(
     book: &SealedBook<K>,
     asked: &Reading<V>,
 ) -> Outcome<V>
-    ensures { History K.ProductKind.cut (sealed_book K.ProductKind.meaning book.now) → told_of V.Measure.meaning result ≡ read_told V.Measure.semiring V.Measure.meaning (sealed_book K.ProductKind.meaning book.now) (reading_of asked.now) }
+    ensures { History K.cut (sealed_book K.meaning book.now) → told_of V.meaning result ≡ read_told V.semiring V.meaning (sealed_book K.meaning book.now) (reading_of asked.now) }
 {
     match asked {
         Reading::Worth(weighing) => worth(book, weighing),
@@ -34,7 +34,7 @@ pub(crate) fn read<K: ProductKind, V: Measure>(
 }
 
 fn worth<K: ProductKind, V: Measure>(book: &SealedBook<K>, weighing: &Weighing<V>) -> Outcome<V>
-    ensures { History K.ProductKind.cut (sealed_book K.ProductKind.meaning book.now) → told_of V.Measure.meaning result ≡ read_told V.Measure.semiring V.Measure.meaning (sealed_book K.ProductKind.meaning book.now) (worth_of_book (weighing_of weighing.now)) }
+    ensures { History K.cut (sealed_book K.meaning book.now) → told_of V.meaning result ≡ read_told V.semiring V.meaning (sealed_book K.meaning book.now) (worth_of_book (weighing_of weighing.now)) }
 {
     let mut place = V::zero();
     let works = weighing.works.as_slice();
@@ -50,7 +50,7 @@ fn product_worth<K: ProductKind, V: Measure>(
     k: usize,
     weighing: &Weighing<V>,
 ) -> Outcome<V>
-    ensures { History K.ProductKind.cut (sealed_book K.ProductKind.meaning book.now) → told_of V.Measure.meaning result ≡ read_told V.Measure.semiring V.Measure.meaning (sealed_book K.ProductKind.meaning book.now) (worth_of_product k (weighing_of weighing.now)) }
+    ensures { History K.cut (sealed_book K.meaning book.now) → told_of V.meaning result ≡ read_told V.semiring V.meaning (sealed_book K.meaning book.now) (worth_of_product k (weighing_of weighing.now)) }
 {
     let mut place = V::zero();
     let works = weighing.works.as_slice();

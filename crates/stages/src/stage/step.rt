@@ -15,8 +15,8 @@ use products::ProductKind;
 impl<'a, K: ProductKind> Stage<'a, K> {
     // The number of entered paths and the number of products.
     pub fn counts(&self) -> (usize, usize)
-        ensures paths { result.0 ≡ length (book_of K.ProductKind.meaning self.now).paths }
-        ensures products { result.1 ≡ length (book_of K.ProductKind.meaning self.now).products }
+        ensures paths { result.0 ≡ length (book_of K.meaning self.now).paths }
+        ensures products { result.1 ≡ length (book_of K.meaning self.now).products }
     {
         match self {
             Stage::Open(book) => book.counts(),
@@ -31,8 +31,8 @@ impl<'a, K: ProductKind> Stage<'a, K> {
         work: &mut [K],
         report: &mut Report<V>,
     ) -> Stage<'a, K>
-        ensures next { book_of K.ProductKind.meaning result ≡ next K.ProductKind.cut (book_of K.ProductKind.meaning self.entry) (ask_of (length work.old) order.now) }
-        ensures report { History K.ProductKind.cut (book_of K.ProductKind.meaning self.entry) → telling_of V.Measure.meaning report.new ≡ telling V.Measure.semiring V.Measure.meaning K.ProductKind.cut (book_of K.ProductKind.meaning self.entry) (ask_of (length work.old) order.now) }
+        ensures next { book_of K.meaning result ≡ next K.cut (book_of K.meaning self.entry) (ask_of (length work.old) order.now) }
+        ensures report { History K.cut (book_of K.meaning self.entry) → telling_of V.meaning report.new ≡ telling V.semiring V.meaning K.cut (book_of K.meaning self.entry) (ask_of (length work.old) order.now) }
         ensures spared { SparedSpace (space_of self.entry) (space_of result) }
         ensures through { through_of result ≡ through_of self.entry }
     {
@@ -57,8 +57,8 @@ fn step_open<'a, K: ProductKind, V: Measure>(
     work: &mut [K],
     outcome: &mut Outcome<V>,
 ) -> Stage<'a, K>
-    ensures next { book_of K.ProductKind.meaning result ≡ next K.ProductKind.cut (open_book K.ProductKind.meaning book.entry) (ask_of (length work.old) order.now) }
-    ensures outcome { told_of V.Measure.meaning outcome.new ≡ answered V.Measure.semiring V.Measure.meaning K.ProductKind.cut (open_book K.ProductKind.meaning book.entry) (ask_of (length work.old) order.now) }
+    ensures next { book_of K.meaning result ≡ next K.cut (open_book K.meaning book.entry) (ask_of (length work.old) order.now) }
+    ensures outcome { told_of V.meaning outcome.new ≡ answered V.semiring V.meaning K.cut (open_book K.meaning book.entry) (ask_of (length work.old) order.now) }
     ensures spared { SparedSpace (open_space book.entry) (space_of result) }
     ensures through { through_of result ≡ book.entry.slots.ghost_name }
 {
@@ -92,8 +92,8 @@ fn step_sealed<'a, K: ProductKind, V: Measure>(
     order: &Order<V>,
     outcome: &mut Outcome<V>,
 ) -> Stage<'a, K>
-    ensures next { (places : ℕ) → book_of K.ProductKind.meaning result ≡ next K.ProductKind.cut (sealed_book K.ProductKind.meaning book.entry) (ask_of places order.now) }
-    ensures outcome { History K.ProductKind.cut (sealed_book K.ProductKind.meaning book.entry) → (places : ℕ) → told_of V.Measure.meaning outcome.new ≡ answered V.Measure.semiring V.Measure.meaning K.ProductKind.cut (sealed_book K.ProductKind.meaning book.entry) (ask_of places order.now) }
+    ensures next { (places : ℕ) → book_of K.meaning result ≡ next K.cut (sealed_book K.meaning book.entry) (ask_of places order.now) }
+    ensures outcome { History K.cut (sealed_book K.meaning book.entry) → (places : ℕ) → told_of V.meaning outcome.new ≡ answered V.semiring V.meaning K.cut (sealed_book K.meaning book.entry) (ask_of places order.now) }
     ensures space { space_of result ≡ sealed_space book.entry }
     ensures through { through_of result ≡ book.entry.slots.ghost_name }
 {
