@@ -1,7 +1,7 @@
 -- Products that share no state are at most as many as the states.
 use Rattle.std.proofs.Common.{◌≡◌, ℕ, zero, suc, ◌+◌, ◌^◌, ◌<◌, ◌≤◌, Bool, true, false, not, ◌⊎◌, List, [], ◌∷◌, length, refl, ap, inl, inr, arith}
 use lib.Bits.{bit_and, bit_or}
-use Rattle.std.specs.List.{AllByRecursion as All}
+use Rattle.std.specs.List.{AllByRecursion}
 use Rattle.std.proofs.lemmas.Bool.{and_parts, and_from, eqb-false, not-true, not_from_false, cases_lt}
 use Rattle.parts.specs.Sets.{within, empty, joined}
 use Rattle.products.specs.Product.{Meaning, lacks_each, is_in, how_many, tidy_from, tidy, names}
@@ -61,7 +61,7 @@ over_most : (f : ℕ → ℕ) (n : ℕ) → ((s : ℕ) → s < n → f s ≤ 1) 
 over_most f zero h = omega arith
 over_most f (suc n) h = omega (arith, h n (omega arith), over_most f n (λ s l. h s (omega arith)))
 
-many_over : {fits : Meaning → Type 0} {cut : Cut} (laws : KindLaws fits cut) (n : ℕ) (ps : List Meaning) → All (Good fits n) ps → length ps ≤ over (how_many ps) (2 ^ n)
+many_over : {fits : Meaning → Type 0} {cut : Cut} (laws : KindLaws fits cut) (n : ℕ) (ps : List Meaning) → AllByRecursion (Good fits n) ps → length ps ≤ over (how_many ps) (2 ^ n)
 many_over laws n [] good = omega arith
 many_over laws n (p ∷ ps) good =
     let own : one_if (is_in p p.must) ≡ 1 = ap one_if (own_state p (laws.tidies p good.0.fit)) in
@@ -70,5 +70,5 @@ many_over laws n (p ∷ ps) good =
     let rest : length ps ≤ over (how_many ps) (2 ^ n) = many_over laws n ps good.1 in
     omega arith
 
-pub at_most : {fits : Meaning → Type 0} {cut : Cut} (laws : KindLaws fits cut) (n : ℕ) (ps : List Meaning) → All (Good fits n) ps → ((s : ℕ) → s < 2 ^ n → how_many ps s ≤ 1) → length ps ≤ 2 ^ n
+pub at_most : {fits : Meaning → Type 0} {cut : Cut} (laws : KindLaws fits cut) (n : ℕ) (ps : List Meaning) → AllByRecursion (Good fits n) ps → ((s : ℕ) → s < 2 ^ n → how_many ps s ≤ 1) → length ps ≤ 2 ^ n
 at_most laws n ps good h = omega (arith, many_over laws n ps good, over_most (how_many ps) (2 ^ n) h)

@@ -1,7 +1,7 @@
 -- The parts of a set, each alone, in rising number.
 use Rattle.std.proofs.Common.{◌≡◌, ℕ, zero, suc, ◌+◌, ◌*◌, ◌/◌, ◌%◌, ◌^◌, ◌<◌, ◌≤◌, min, Bool, true, false, cond, not, ◌&&◌, eqb, List, [], ◌∷◌, map, sym, refl, ap, ◌∙◌, subst, ap₂, pow-suc, arith, pow_pos}
 use lib.Bits.{bit_and, bit_or, and_step, and_le_l}
-use Rattle.std.specs.List.{AllByRecursion as All, range_with_len, filter}
+use Rattle.std.specs.List.{AllByRecursion, range_with_len, filter}
 use Rattle.std.proofs.ByRecursion.{All-map, All-weaker}
 use Rattle.std.proofs.lemmas.Bool.Decides.{same_from_decides, Decides-like, Decides-and, nat_tests}
 use Rattle.parts.specs.Sets.{bit, has, within, empty, joined, parts}
@@ -90,19 +90,19 @@ pub joined_parts : (d n : ℕ) → n < 2 ^ d → joined (parts_of d n) ≡ n
 joined_parts d n h = same_set _ _ (λ i. omega (arith, bit_joined (parts_of d n) i, times_parts d n i h, bit_lt n i))
 
 -- what each part alone is
-all_lowest : (P : ℕ → Type 0) → P 1 → (b : ℕ) (xs : List ℕ) → All P xs → All P (lowest b xs)
+all_lowest : (P : ℕ → Type 0) → P 1 → (b : ℕ) (xs : List ℕ) → AllByRecursion P xs → AllByRecursion P (lowest b xs)
 all_lowest P one zero xs h = h
 all_lowest P one (suc b) xs h = (one, h)
 
-pub all_parts : (P : ℕ → ℕ → Type 0) → ((d : ℕ) → P (suc d) 1) → ((d x : ℕ) → P d x → P (suc d) (double x)) → (d n : ℕ) → All (P d) (parts_of d n)
+pub all_parts : (P : ℕ → ℕ → Type 0) → ((d : ℕ) → P (suc d) 1) → ((d x : ℕ) → P d x → P (suc d) (double x)) → (d n : ℕ) → AllByRecursion (P d) (parts_of d n)
 all_parts P one twice zero n = tt
 all_parts P one twice (suc d) n =
     all_lowest (P (suc d)) (one d) (n % 2) _ (All-map (P (suc d)) double _ (All-weaker (P d) (λ x. P (suc d) (double x)) (twice d) _ (all_parts P one twice d (n / 2))))
 
-pub parts_filled : (d n : ℕ) → All (λ x. 0 < x) (parts_of d n)
+pub parts_filled : (d n : ℕ) → AllByRecursion (λ x. 0 < x) (parts_of d n)
 parts_filled = all_parts (λ _ x. 0 < x) (λ _. omega arith) (λ d x h. omega arith)
 
-pub parts_below : (d n : ℕ) → All (λ x. x < 2 ^ d) (parts_of d n)
+pub parts_below : (d n : ℕ) → AllByRecursion (λ x. x < 2 ^ d) (parts_of d n)
 parts_below = all_parts (λ d x. x < 2 ^ d) (λ d. omega (arith, pow_pos d)) (λ d x h. omega arith)
 
 -- one part alone: each set has it or is apart from it
@@ -135,7 +135,7 @@ lone_double : (x : ℕ) → Lone x → Lone (double x)
 lone_double x h s =
     ap not (within_double x s) ∙ h (s / 2) ∙ sym (ap empty (and_double x s) ∙ empty_double (bit_and x (s / 2)))
 
-pub parts_lone : (d n : ℕ) → All Lone (parts_of d n)
+pub parts_lone : (d n : ℕ) → AllByRecursion Lone (parts_of d n)
 parts_lone = all_parts (λ _ x. Lone x) (λ _. lone_one) (λ d x h. lone_double x h)
 
 pub apart_or : (a b s : ℕ) → empty (bit_and (bit_or a b) s) ≡ (empty (bit_and a s) && empty (bit_and b s))
@@ -154,11 +154,11 @@ times_set n i h = ap (λ xs. times xs i) (parts_are n) ∙ times_parts 24 n i h
 pub joined_set : (n : ℕ) → n < 2 ^ 24 → joined (parts n) ≡ n
 joined_set n h = ap joined (parts_are n) ∙ joined_parts 24 n h
 
-pub filled_set : (n : ℕ) → All (λ x. 0 < x) (parts n)
-filled_set n = subst (All (λ x. 0 < x)) (sym (parts_are n)) (parts_filled 24 n)
+pub filled_set : (n : ℕ) → AllByRecursion (λ x. 0 < x) (parts n)
+filled_set n = subst (AllByRecursion (λ x. 0 < x)) (sym (parts_are n)) (parts_filled 24 n)
 
-pub below_set : (n : ℕ) → All (λ x. x < 2 ^ 24) (parts n)
-below_set n = subst (All (λ x. x < 2 ^ 24)) (sym (parts_are n)) (parts_below 24 n)
+pub below_set : (n : ℕ) → AllByRecursion (λ x. x < 2 ^ 24) (parts n)
+below_set n = subst (AllByRecursion (λ x. x < 2 ^ 24)) (sym (parts_are n)) (parts_below 24 n)
 
-pub lone_set : (n : ℕ) → All Lone (parts n)
-lone_set n = subst (All Lone) (sym (parts_are n)) (parts_lone 24 n)
+pub lone_set : (n : ℕ) → AllByRecursion Lone (parts n)
+lone_set n = subst (AllByRecursion Lone) (sym (parts_are n)) (parts_lone 24 n)
