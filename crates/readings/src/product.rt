@@ -22,14 +22,14 @@ pub(crate) fn product_at<'b, K: ProductKind>(
 }
 
 pub fn read_must<K: ProductKind>(book: &SealedBook<K>, k: usize) -> Result<PartSet, Refusal>
-    ensures { bits_read result ≡ must_read (sealed_book meaning book.now).products k }
+    ensures { bits_read result ≡ must_read (sealed_book K.meaning book.now).products k }
 {
     let product = product_at(book, k)?;
     Ok(product.must())
 }
 
 pub fn read_group_count<K: ProductKind>(book: &SealedBook<K>, k: usize) -> Result<usize, Refusal>
-    ensures { result ≡ group_count_read (sealed_book meaning book.now).products k }
+    ensures { result ≡ group_count_read (sealed_book K.meaning book.now).products k }
 {
     let product = product_at(book, k)?;
     Ok(product.group_count())
@@ -41,7 +41,7 @@ pub fn read_group<K: ProductKind>(
     k: usize,
     j: usize,
 ) -> Result<PartSet, Refusal>
-    ensures { bits_read result ≡ group_read (sealed_book meaning book.now).products k j }
+    ensures { bits_read result ≡ group_read (sealed_book K.meaning book.now).products k j }
 {
     let product = product_at(book, k)?;
     if j >= product.group_count() {

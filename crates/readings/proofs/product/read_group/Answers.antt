@@ -9,7 +9,7 @@ use Rattle.readings.proofs.product.read_group.Goals as goal
 
 pub returns-in_err-product : goal.returns-in_err-product
 returns-in_err-product g c =
-    let p = err_from_is_err_and c.from-residual.result c.from-residual.ensures.1 in
+    let p = err_from_is_err_and c.from_residual.result c.from_residual.ensures.1 in
     let none = c.in_err-product.ensures in
     rw (p.1, p.2) (ap Err none.0 ∙ read_none g.K.ProductKind.meaning (held c.args.book.now) c.args.k (group_of c.args.j) none.1)
 
