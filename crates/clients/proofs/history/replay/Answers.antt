@@ -1,4 +1,4 @@
-use Rattle.std.proofs.Common.{◌≡◌, ℕ, ◌+◌, ◌<◌, ◌≤◌, true, [], ◌∷◌, ◌++◌, length, is_err, Ok, Err, vec_items, vec_len, vec_capacity, Result, sym, refl, ap, ◌∙◌, subst, arith, length-append, MatchResult}
+use Rattle.std.proofs.Common.{◌≡◌, ℕ, ◌+◌, ◌<◌, ◌≤◌, true, false, [], ◌∷◌, ◌++◌, length, is_err, Ok, Err, vec_items, vec_len, vec_capacity, Result, sym, refl, ap, ◌∙◌, subst, arith, length-append, OnOk, OnErr}
 use Rattle.stages.specs.Asks.{next, telling}
 use Rattle.clients.specs.Replayed.{Asking, nothing, one_more}
 use Rattle.stages.specs.Stages.{ask_of, book_of}
@@ -39,8 +39,8 @@ loop-preserved g c =
       omega (arith, ap length more ∙ length-append items (step ∷ []), l.invariant.3),
     )
 
-pub returns-in-default : goal.returns-in-default
-returns-in-default g c =
+pub returns-in_default : goal.returns-in_default
+returns-in_default g c =
     let measure = g.V.Measure in
     let kind = g.K.ProductKind in
     let asks = g.C.Client.asks in
@@ -53,16 +53,25 @@ returns-in-default g c =
       asked = record {
         last = l.client;
         asking = subst (λ xs. Asking asks c.args.client.now xs l.client) (sym same) l.invariant.1;
-        ended = subst (λ r. asks l.client (vec_items c.reserve.new.self) r c.ask.new.self) c.in-default.is
+        ended = subst (λ r. asks l.client (vec_items c.reserve.new.self) r c.ask.new.self) c.in_default.is
             (subst (λ xs. asks l.client xs c.ask.result c.ask.new.self) c.as_slice.ensures.value c.ask.ensures);
       };
       through = l.invariant.0.through ∙ new.through;
     }
 
--- what holds of a call that failed
-failed : {T E : Type 0} (P Q : Type 0) (r : Result T E) → MatchResult r (λ _. P) (λ _. Q) → is_err r ≡ true → Q
-failed P Q (Ok x) h e = absurd (let z : ◌≡◌ {A = ℕ} 0 1 = cc in omega arith)
-failed P Q (Err x) h e = h
+-- what holds of a call that failed, and of one that did not
+failed : {T E : Type 0} (Q : Type 0) (r : Result T E) → OnErr r Q → is_err r ≡ true → Q
+failed Q (Ok x) h e = absurd (let z : ◌≡◌ {A = ℕ} 0 1 = cc in omega arith)
+failed Q (Err x) h e = h
+
+went : {T E : Type 0} (P : Type 0) (r : Result T E) → OnOk r P → is_err r ≡ false → P
+went P (Ok x) h e = h
+went P (Err x) h e = absurd (let z : ◌≡◌ {A = ℕ} 0 1 = cc in omega arith)
+
+pub record-requires : goal.record-requires
+record-requires g c =
+    let room = went (vec_len c.reserve.new.self + 1 ≤ vec_capacity c.reserve.new.self) c.reserve.result c.reserve.ensures.ok (sym c.if-is_err.ensures.value) in
+    omega (arith, room)
 
 pub returns-then-is_err : goal.returns-then-is_err
 returns-then-is_err g c =
@@ -74,7 +83,7 @@ returns-then-is_err g c =
     let same = c.reserve.ensures.items in
     let same_length = ap length same in
     let none : vec_capacity l.steps < vec_len l.steps + 1 =
-    failed (vec_len c.reserve.new.self + 1 ≤ vec_capacity c.reserve.new.self) (vec_capacity l.steps < vec_len l.steps + 1) c.reserve.result c.reserve.ensures.cases (sym c.if-is_err.ensures.value) in
+    failed (vec_capacity l.steps < vec_len l.steps + 1) c.reserve.result c.reserve.ensures.full (sym c.if-is_err.ensures.value) in
     record {
       replayed = led_replayed measure.semiring measure.meaning kind.cut kind.meaning _ g.met.K.ProductKind.lawful g.met.V.Measure.lawful n.count c.args.slots.now _ _ _ _ n.limit new.made new.space same l.invariant.0;
       asked = record {
