@@ -2,7 +2,7 @@
 #![tactic(auto)]
 
 #[cfg(test)]
-mod books;
+mod entries;
 #[cfg(test)]
 mod cuts;
 #[cfg(test)]

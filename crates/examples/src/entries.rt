@@ -59,9 +59,9 @@ fn bridge_in_both_kinds(rt: HostRuntime) -> Result<(), Fail> {
 fn refusals_of_entries(rt: HostRuntime) -> Result<(), Fail> {
     let paths = [0, 0b100000, 0b00011, 0b00111, 0b01100];
     let run = enter_all::<group::GroupProduct>(rt.alloc(), 5, 300, 64, &paths)?;
-    assert!(rt; run.refused.as_slice() == &[Some(21), Some(22), None, Some(24), None]);
+    assert!(rt; run.refused.as_slice() == [Some(21), Some(22), None, Some(24), None].as_slice());
     let short = enter_all::<group::GroupProduct>(rt.alloc(), 5, 300, 63, &paths)?;
-    assert!(rt; short.refused.as_slice() == &[Some(21), Some(22), Some(23), Some(23), Some(23)]);
+    assert!(rt; short.refused.as_slice() == [Some(21), Some(22), Some(23), Some(23), Some(23)].as_slice());
     Ok(())
 }
 
@@ -69,9 +69,9 @@ fn refusals_of_entries(rt: HostRuntime) -> Result<(), Fail> {
 fn slots_just_enough_and_too_few(rt: HostRuntime) -> Result<(), Fail> {
     let paths = [0b00011, 0b01100];
     let enough = enter_all::<single::SingleProduct>(rt.alloc(), 5, 3, 64, &paths)?;
-    assert!(rt; enough.refused.as_slice() == &[None, None]);
+    assert!(rt; enough.refused.as_slice() == [None, None].as_slice());
     let few = enter_all::<single::SingleProduct>(rt.alloc(), 5, 2, 64, &paths)?;
-    assert!(rt; few.refused.as_slice() == &[None, Some(26)]);
+    assert!(rt; few.refused.as_slice() == [None, Some(26)].as_slice());
     assert!(rt; few.counts == (1, 1));
     Ok(())
 }
