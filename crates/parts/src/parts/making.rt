@@ -1,5 +1,5 @@
 // One checking call makes each of the three types from a plain number.
-ghost use Rattle.std.specs.Prelude.{◌≡◌, ◌<◌};
+ghost use Rattle.std.specs.Prelude.{◌≡◌};
 ghost use Rattle.parts.specs.Limits.{PartCountLimit, PartNumberLimit, PartSetLimit};
 ghost use Rattle.refusals.specs.Checked.{Checked};
 ghost use Rattle.refusals.specs.declared.refusal.Refusal.TheVariants.{PartCountOutOfRange, PartNumberOutOfRange, PartSetOutOfRange};

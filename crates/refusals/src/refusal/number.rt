@@ -1,9 +1,8 @@
 // The number of each refusal, by which two refusals are compared.
 ghost use Rattle.std.specs.Prelude.{◌≡◌, ◌==◌};
-ghost use Rattle.refusals.specs.Numbers.{number_of};
-ghost use Rattle.std.specs.Cmp.Rules.{comparing};
 ghost use Rattle.std.proofs.Common.{rules};
-ghost use Rattle.std.specs.Cmp as Keys;
+ghost use Rattle.std.specs.Cmp.Rules.{comparing};
+ghost use Rattle.refusals.specs.Numbers.{number_of};
 
 use super::Refusal;
 
@@ -40,9 +39,9 @@ impl Refusal {
 }
 
 impl PartialEq for Refusal {
-    ghost eq = { λ x y. (number_of x == number_of y) };
+    ghost eq = { λ x y. number_of x == number_of y };
 
-    ghost laws = { Keys.partial_equiv_from_equiv (Prim.search (comparing, rules)) };
+    ghost laws = { Prim.search (comparing, rules) };
 
     fn eq(&self, other: &Refusal) -> bool {
         self.number() == other.number()
