@@ -34,15 +34,15 @@ pub(crate) struct Desk<'a> {
 }
 
 impl<'a> Desk<'a> {
-    pub(crate) fn new(rt: &'a HostRuntime) -> Desk<'a> {
-        Desk {
+    pub(crate) fn new(rt: &'a HostRuntime) -> anyhow::Result<Desk<'a>> {
+        Ok(Desk {
             rt,
-            lines: BufReader::new(rt.stdin()),
+            lines: BufReader::new(rt.alloc(), rt.stdin())?,
             settings: Settings::new(rt.alloc()),
             waiting: Waiting::Step,
             ordered: None,
             trouble: None,
-        }
+        })
     }
 
     // Answers lines until one starts a book.

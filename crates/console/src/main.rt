@@ -30,7 +30,7 @@ fn main(rt: HostRuntime) -> anyhow::Result<()> {
 
 // One book after the other, until the lines end.
 fn run(rt: &HostRuntime) -> anyhow::Result<()> {
-    let mut desk = Desk::new(rt);
+    let mut desk = Desk::new(rt)?;
     let mut ordered = desk.first_book()?;
     for _ in 0..u64::MAX {
         let Some(book) = ordered else {

@@ -68,7 +68,7 @@ fn ones(heap: Global, count: usize) -> Result<Vec<Worth>, Misread> {
 }
 
 fn one() -> Worth {
-    PairMeasure::<Count, PairMeasure<Residue, Life>>::one()
+    Worth::one()
 }
 
 fn keep(list: &mut Vec<Worth>, weight: Worth) -> Result<(), AllocError> {

@@ -61,7 +61,9 @@ fn refusals_of_entries(rt: HostRuntime) -> Result<(), Fail> {
     let run = enter_all::<group::GroupProduct>(rt.alloc(), 5, 300, 64, &paths)?;
     assert!(rt; run.refused.as_slice() == [Some(21), Some(22), None, Some(24), None].as_slice());
     let short = enter_all::<group::GroupProduct>(rt.alloc(), 5, 300, 63, &paths)?;
-    assert!(rt; short.refused.as_slice() == [Some(21), Some(22), Some(23), Some(23), Some(23)].as_slice());
+    assert!(rt;
+        short.refused.as_slice() == [Some(21), Some(22), Some(23), Some(23), Some(23)].as_slice()
+    );
     Ok(())
 }
 

@@ -2,9 +2,9 @@
 #![tactic(auto)]
 
 #[cfg(test)]
-mod entries;
-#[cfg(test)]
 mod cuts;
+#[cfg(test)]
+mod entries;
 #[cfg(test)]
 mod limits;
 #[cfg(test)]
