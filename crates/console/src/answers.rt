@@ -1,4 +1,4 @@
-// What the workbench says of a step, of a reading, and of a line that it does not understand.
+// What the console says of a step, of a reading, and of a line that it does not understand.
 use crate::command::Misread;
 use crate::question::{Asked, Question};
 use crate::weights::Worth;

@@ -1,4 +1,4 @@
-// The workbench: reads lines from standard input, each a command for a book, and answers them one by one. A line that
+// The console: reads lines from standard input, each a command for a book, and answers them one by one. A line that
 // says nothing known gets an answer too, and the next one is read.
 #![tactic(auto)]
 
