@@ -2,11 +2,15 @@
 #![tactic(auto)]
 
 mod cutting;
+mod groups;
 mod kind;
+mod pieces;
 mod states;
 mod text;
 
 pub use cutting::{new_products, pieces_of_all};
+pub use groups::Groups;
 pub use kind::ProductKind;
+pub use pieces::Pieces;
 pub use states::{holds, pieces_that_hold};
 pub use text::Printed;
