@@ -3,3 +3,4 @@ pub mod Tally
 pub mod Alone
 pub mod Lowest
 pub mod Same
+pub mod All

@@ -98,3 +98,6 @@ drop_capped xs k n h = go (cases_lt k n)
     go : (k < n) ⊎ (n ≤ k) → drop (min k n) xs ≡ drop k xs
     go (inl l) = ap (λ (m : ℕ). drop m xs) (omega arith)
     go (inr l) = drop_all (min k n) xs (omega arith) ∙ sym (drop_all k xs (omega arith))
+
+pub none_left : (n : ℕ) → n ≡ 0 → parts n ≡ []
+none_left n e = ap parts e ∙ parts_none

@@ -3,4 +3,6 @@
 
 mod parts;
 
+pub use parts::list::PartSets;
+pub use parts::walking::Parts;
 pub use parts::{PartCount, PartNumber, PartSet};
