@@ -4,3 +4,4 @@ pub mod Alone
 pub mod Lowest
 pub mod Same
 pub mod All
+pub mod Numbers

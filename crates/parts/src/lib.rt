@@ -1,4 +1,4 @@
-// Parts of a machine: how many there are, one of them, and a set of them, each within its limit.
+// Parts of a machine: how many there are, one of them, a set of them, each within its limit, and a list of sets.
 #![tactic(auto)]
 
 mod parts;

@@ -1,7 +1,7 @@
 // Walking over the parts of a set in rising number.
-ghost use Rattle.std.specs.Prelude.{◌≡◌, ◌^◌};
+ghost use Rattle.std.specs.Prelude.{◌≡◌};
 ghost use Rattle.std.specs.Iterator.{YieldsFirstBy, item_count};
-ghost use Rattle.parts.specs.Sets.{parts};
+ghost use Rattle.parts.specs.Sets.{numbers};
 
 use super::{PartNumber, PartSet};
 
@@ -14,10 +14,11 @@ pub struct Parts {
 impl Iterator for Parts {
     type Item = PartNumber;
 
-    ghost next_gives = { YieldsFirstBy (λ part. 2 ^ part.index) (λ it. parts it.left.bits) };
+    ghost next_gives = { YieldsFirstBy (λ part. part.index) (λ it. numbers it.left.bits) };
 
-    ghost remaining = { item_count (λ it. parts it.left.bits) };
+    ghost remaining = { item_count (λ it. numbers it.left.bits) };
 
+    #[tactic(auto, using(crate::proofs::Numbers::numbers_first, crate::proofs::Numbers::numbers_none))]
     fn next(&mut self) -> Option<PartNumber> {
         let part = self.left.lowest()?;
         self.left = self.left.without_lowest();

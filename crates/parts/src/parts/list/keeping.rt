@@ -1,5 +1,5 @@
 // Reading a list of sets, adding to it, and putting another set in the place of one.
-ghost use Rattle.std.specs.Prelude.{◌≡◌, ◌<◌, [], ◌∷◌, ◌++◌, length, slice_set};
+ghost use Rattle.std.specs.Prelude.{◌≡◌, ◌<◌, ◌≤◌, [], ◌∷◌, ◌++◌, length, slice_set};
 ghost use Rattle.parts.specs.Lists.{sets_in};
 
 use super::PartSets;
@@ -16,7 +16,8 @@ impl<const N: usize> PartSets<N> {
     }
 
     pub fn as_slice(&self) -> &[PartSet]
-        ensures { result.now ≡ sets_in self.now }
+        ensures value { result.now ≡ sets_in self.now }
+        ensures room { length result.now ≤ N }
     {
         &self.sets[..self.count]
     }
