@@ -1,6 +1,7 @@
 // Products of parts: what a kind of product offers and must show, and what can be done with every kind.
 #![tactic(auto)]
 
+mod blank;
 mod cutting;
 mod groups;
 mod kind;
@@ -8,6 +9,7 @@ mod pieces;
 mod states;
 mod text;
 
+pub use blank::blank_products;
 pub use cutting::{new_products, pieces_of_all};
 pub use groups::Groups;
 pub use kind::ProductKind;
