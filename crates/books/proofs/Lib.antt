@@ -1,2 +1,3 @@
 mod Judging
+pub mod Books
 pub mod Spaces
