@@ -1,4 +1,4 @@
-use Rattle.std.proofs.Common.{◌≡◌, ℕ, ◌+◌, ◌≤◌, [], ◌∷◌, ◌++◌, length, vec_items, vec_capacity, sym, ap, ◌∙◌, subst, arith, length-append, of_calls}
+use Rattle.std.proofs.Common.{◌≡◌, ℕ, [], ◌∷◌, ◌++◌, length, vec_items, sym, ap, ◌∙◌, subst, arith, length-append, of_calls}
 use Rattle.std.specs.Fn.{CalledAt}
 use Rattle.clients.specs.Asked.{Asking, nothing, one_more}
 use Rattle.clients.proofs.history.replay.Goals as goal
