@@ -32,9 +32,9 @@ pub fn card_on_trials(card: &mut Card, parts: &[PartNumber]) -> Card
     ensures same { card.new ≡ card.old }
     ensures value { result ≡ fold pulling card.old parts.now }
 {
-    if parts.is_empty() {
+    let Some((part, rest)) = parts.split_first() else {
         return *card;
-    }
-    let trial = TrialPull::new(card, parts[0]);
-    card_on_trials(trial.card, &parts[1..])
+    };
+    let trial = TrialPull::new(card, *part);
+    card_on_trials(trial.card, rest)
 }

@@ -1,4 +1,5 @@
 // How a history of a client's ends.
+use products::ProductKind;
 use stages::Stage;
 use std::error::Error;
 use std::fmt;
@@ -24,7 +25,7 @@ impl Error for CutShort {}
 
 // The book after the last step, and whether the client had asked for all.
 #[derive(Drop)]
-pub struct Finished<'a, K> {
+pub struct Finished<'a, K: ProductKind> {
     pub stage: Stage<'a, K>,
     pub ending: Result<(), CutShort>,
 }

@@ -2,7 +2,7 @@
 use Rattle.std.proofs.Common.{◌≡◌, ℕ, zero, suc, ◌<◌, ◌≤◌, Bool, true, false, ◌||◌, List, [], ◌∷◌, ◌++◌, length, get_or, sym, refl, ap, ◌∙◌, arith}
 use Rattle.parts.specs.Sets.{within}
 use Rattle.products.specs.Product.{Meaning, product, is_in, how_many}
-use Rattle.products.proofs.Pieces.{one_if}
+use Rattle.products.proofs.Cuts.{one_if}
 use Rattle.histories.specs.Entry.{covered}
 
 -- product j of the row has the state

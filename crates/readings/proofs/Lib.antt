@@ -1,3 +1,2 @@
-mod Products
 mod Worths
 mod Ones

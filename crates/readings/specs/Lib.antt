@@ -1,4 +1,3 @@
-pub mod Held
 pub mod Products
 pub mod Worths
 pub mod Readings

@@ -2,7 +2,6 @@
 #![tactic(auto)]
 
 mod covered;
-mod lists;
 mod product;
 mod product_worth;
 mod worth;

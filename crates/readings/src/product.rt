@@ -1,8 +1,7 @@
 // Product k of a sealed book, counted from 0: its must set and its lack groups.
 ghost use Rattle.std.specs.Prelude.{◌≡◌};
-ghost use Rattle.books.specs.Held.{sealed_book};
-ghost use Rattle.readings.specs.Held.{held, Found};
-ghost use Rattle.readings.specs.Products.{must_read, group_count_read, group_read, bits_read};
+ghost use Rattle.books.specs.Held.{sealed_book, sealed_products};
+ghost use Rattle.readings.specs.Products.{Found, must_read, group_count_read, group_read, bits_read};
 
 use books::SealedBook;
 use parts::PartSet;
@@ -13,12 +12,9 @@ pub(crate) fn product_at<'b, K: ProductKind>(
     book: &'b SealedBook<K>,
     k: usize,
 ) -> Result<&'b K, Refusal>
-    ensures { Found (held book.now) k result }
+    ensures { Found (sealed_products book.now) k result }
 {
-    match book.products().get(k) {
-        Some(product) => Ok(product),
-        None => Err(Refusal::NoSuchProduct),
-    }
+    book.products().get(k).ok_or(Refusal::NoSuchProduct)
 }
 
 pub fn read_must<K: ProductKind>(book: &SealedBook<K>, k: usize) -> Result<PartSet, Refusal>

@@ -10,7 +10,9 @@ use Rattle.measures.specs.Semiring.{Semiring, Laws}
 use Rattle.products.specs.Cutting.{Cut}
 use Rattle.products.specs.Law.{KindLaws}
 use Rattle.products.specs.Product.{Meaning}
+use Rattle.products.specs.declared.kind.ProductKind.{Ghosts}
 use Rattle.std.proofs.lemmas.List.{map_push}
+use Rattle.std.proofs.lemmas.List.Sums.{fold-append}
 use Rattle.worths.proofs.Sums.{adds}
 use Rattle.replays.specs.Along.{after, tellings}
 use Rattle.stages.specs.Asks.{Ask, enter, counts, seal, reopen, read, next, telling}
@@ -45,48 +47,42 @@ tellings_push : (R : Semiring) {V : Type 0} (mean : V → R.Of) (cut : Cut) (b :
 tellings_push R mean cut b [] ask = refl
 tellings_push R mean cut b (a ∷ asks) ask = ap (λ xs. telling R mean cut b a ∷ xs) (tellings_push R mean cut (next cut b a) asks ask)
 
-after_push : {V : Type 0} (cut : Cut) (b : Book) (asks : List (Ask V)) (ask : Ask V) → after cut b (asks ++ (ask ∷ [])) ≡ next cut (after cut b asks) ask
-after_push cut b [] ask = refl
-after_push cut b (a ∷ asks) ask = after_push cut (next cut b a) asks ask
-
 -- ---- from one book to another by steps
 
-module _ {K V : Type 0} (R : Semiring) (mean : V → R.Of) (cut : Cut) (meaning : K → Meaning) (most : ℕ) where
-  -- the steps lead from the first book to the second
-  pub record Led (first : Stage K) (steps : List (HistoryStep V)) (stage : Stage K) : Type 0 where
-    pub book : book_of meaning stage ≡ after cut (book_of meaning first) (asks_of most steps)
-    pub told : map (λ s. telling_of mean s.report) steps ≡ tellings R mean cut (book_of meaning first) (asks_of most steps)
-    pub past : History cut (book_of meaning stage)
-    pub spared : SparedSpace (space_of first) (space_of stage)
-    pub through : through_of stage ≡ through_of first
+-- the steps lead from the first book to the second
+pub record Led {K V : Type 0} {kind : Ghosts K} (R : Semiring) (mean : V → R.Of) (cut : Cut) (meaning : K → Meaning) (most : ℕ) (first : Stage K kind) (steps : List (HistoryStep V)) (stage : Stage K kind) : Type 0 where
+  pub book : book_of meaning stage ≡ after cut (book_of meaning first) (asks_of most steps)
+  pub told : map (λ s. telling_of mean s.report) steps ≡ tellings R mean cut (book_of meaning first) (asks_of most steps)
+  pub spared : SparedSpace (space_of first) (space_of stage)
+  pub through : through_of stage ≡ through_of first
 
-  pub led_nowhere : (first : Stage K) (steps : List (HistoryStep V)) → steps ≡ [] → History cut (book_of meaning first) → Led first steps first
-  led_nowhere first steps e past =
-      subst (λ xs. Led first xs first) (sym e) record { book = refl; told = refl; past = past; spared = spared_same (space_of first); through = refl }
+module _ {K V : Type 0} {kind : Ghosts K} {R : Semiring} {mean : V → R.Of} {cut : Cut} {meaning : K → Meaning} {most : ℕ} where
+  pub led_nowhere : {first : Stage K kind} {steps : List (HistoryStep V)} → steps ≡ [] → Led R mean cut meaning most first steps first
+  led_nowhere {first} e =
+      subst (λ xs. Led R mean cut meaning most first xs first) (sym e) record { book = refl; told = refl; spared = spared_same (space_of first); through = refl }
 
-  pub led_on : (first before stage : Stage K) (steps more : List (HistoryStep V)) (step : HistoryStep V) → Led first steps before → more ≡ steps ++ (step ∷ [])
+  pub led_on : {first before stage : Stage K kind} {steps more : List (HistoryStep V)} (step : HistoryStep V) → Led R mean cut meaning most first steps before → more ≡ steps ++ (step ∷ [])
       → book_of meaning stage ≡ next cut (book_of meaning before) (ask_of most step.order)
       → telling_of mean step.report ≡ telling R mean cut (book_of meaning before) (ask_of most step.order)
-      → SparedSpace (space_of before) (space_of stage) → through_of stage ≡ through_of before → Led first more stage
-  led_on first before stage steps more step led e book told spared through =
+      → SparedSpace (space_of before) (space_of stage) → through_of stage ≡ through_of before → Led R mean cut meaning most first more stage
+  led_on {first} {before} {stage} {steps} {more} step led e book told spared through =
       let ask = ask_of most step.order in
       let asks : asks_of most more ≡ asks_of most steps ++ (ask ∷ []) =
-      ap (asks_of most) e ∙ ap (map (ask_of most)) (map_push order_of steps step) ∙ map_push (ask_of most) (map order_of steps) step.order in
+          ap (asks_of most) e ∙ ap (map (ask_of most)) (map_push order_of steps step) ∙ map_push (ask_of most) (map order_of steps) step.order in
       record {
-        book = book ∙ ap (λ b. next cut b ask) led.book ∙ sym (after_push cut (book_of meaning first) (asks_of most steps) ask) ∙ ap (after cut (book_of meaning first)) (sym asks);
+        book = book ∙ ap (λ b. next cut b ask) led.book ∙ sym (fold-append (next cut) (book_of meaning first) (asks_of most steps) (ask ∷ [])) ∙ ap (after cut (book_of meaning first)) (sym asks);
         told = ap (map (λ s. telling_of mean s.report)) e ∙ map_push (λ s. telling_of mean s.report) steps step
             ∙ ap₂ (λ xs x. xs ++ (x ∷ [])) led.told (told ∙ ap (λ b. telling R mean cut b ask) led.book)
             ∙ sym (tellings_push R mean cut (book_of meaning first) (asks_of most steps) ask) ∙ ap (tellings R mean cut (book_of meaning first)) (sym asks);
-        past = subst (History cut) (sym book) (next_past (book_of meaning before) ask led.past);
         spared = spared_on (space_of first) (space_of before) (space_of stage) led.spared spared;
         through = through ∙ led.through;
       }
 
   -- from a book as it is made on, that is a whole history
-  pub led_replayed : {fits : Meaning → Type 0} → KindLaws fits cut → Laws R → (n : ℕ) (slots : List K) (first : Stage K) (steps more : List (HistoryStep V)) (stage : Stage K)
-      → (1 ≤ n) × (n ≤ 24) → book_of meaning first ≡ making n (length slots) → space_of first ≡ lent slots → more ≡ steps → Led first steps stage
+  pub led_replayed : {fits : Meaning → Type 0} → KindLaws fits cut → Laws R → {n : ℕ} {slots : List K} {first stage : Stage K kind} {steps more : List (HistoryStep V)}
+      → (1 ≤ n) × (n ≤ 24) → book_of meaning first ≡ making n (length slots) → space_of first ≡ lent slots → more ≡ steps → Led R mean cut meaning most first steps stage
       → Replayed R mean cut meaning n slots most more stage
-  led_replayed laws lawful n slots first steps more stage limit new space same led = subst (λ xs. Replayed R mean cut meaning n slots most xs stage) (sym same) record {
+  led_replayed laws lawful {n} {slots} {first} {stage} {steps} limit new space same led = subst (λ xs. Replayed R mean cut meaning n slots most xs stage) (sym same) record {
     book = led.book ∙ ap (λ b. after cut b (asks_of most steps)) new;
     told = led.told ∙ ap (λ b. tellings R mean cut b (asks_of most steps)) new;
     sound = λ k. all_histories_hold laws (at k) (gone k);

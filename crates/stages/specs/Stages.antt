@@ -1,9 +1,10 @@
 -- What the books, the orders and the reports of the code are, as the histories speak of them.
 use Rattle.std.specs.Borrow.{GName}
 use Rattle.std.specs.Prelude.{ℕ, min, List, map, Ok, Err, vec_items, Result}
-use Rattle.books.specs.Held.{open_book, sealed_book, Space, open_space, sealed_space}
+use Rattle.books.specs.Held.{open_book, sealed_book, Space, open_space, sealed_space, open_through, sealed_through}
 use Rattle.histories.specs.Entry.{Book}
 use Rattle.products.specs.Product.{Meaning}
+use Rattle.products.specs.declared.kind.ProductKind.{Ghosts}
 use Rattle.readings.specs.Readings as readings
 use Rattle.refusals.specs.declared.refusal.Refusal.{Refusal}
 use Rattle.stages.specs.Asks.{Ask, enter, counts, seal, reopen, read, Told, taken, gives, refused, not_allowed, Telling}
@@ -64,16 +65,17 @@ abbrev pub worth_outcome : {V : Type 0} → Result V Refusal → Result (Answer 
 worth_outcome (Ok x) = Ok (Worth x)
 worth_outcome (Err refusal) = Err (Refused refusal)
 
-abbrev pub book_of : {K : Type 0} → (K → Meaning) → Stage K → Book
-book_of meaning (Open b) = open_book meaning b
-book_of meaning (Sealed b) = sealed_book meaning b
+module _ {K : Type 0} {kind : Ghosts K} where
+  abbrev pub book_of : (K → Meaning) → Stage K kind → Book
+  book_of meaning (Open b) = open_book meaning b
+  book_of meaning (Sealed b) = sealed_book meaning b
 
--- the slots of a book, and how many of them hold products
-abbrev pub space_of : {K : Type 0} → Stage K → Space K
-space_of (Open b) = open_space b
-space_of (Sealed b) = sealed_space b
+  -- the slots of a book, and how many of them hold products
+  abbrev pub space_of : Stage K kind → Space K
+  space_of (Open b) = open_space b
+  space_of (Sealed b) = sealed_space b
 
--- the reference through which a book holds its slots
-abbrev pub through_of : {K : Type 0} → Stage K → GName
-through_of (Open b) = b.slots.ghost_name
-through_of (Sealed b) = b.slots.ghost_name
+  -- the reference through which a book holds its slots
+  abbrev pub through_of : Stage K kind → GName
+  through_of (Open b) = open_through b
+  through_of (Sealed b) = sealed_through b

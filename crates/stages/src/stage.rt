@@ -5,16 +5,17 @@ pub mod step;
 use crate::answer::Report;
 use crate::order::Order;
 use books::{OpenBook, SealedBook};
+use products::ProductKind;
 
 #[derive(Drop)]
-pub enum Stage<'a, K> {
+pub enum Stage<'a, K: ProductKind> {
     Open(OpenBook<'a, K>),
     Sealed(SealedBook<'a, K>),
 }
 
 // The book after a step, and what is told of the step.
 #[derive(Drop)]
-pub struct Stepped<'a, K, V> {
+pub struct Stepped<'a, K: ProductKind, V> {
     pub stage: Stage<'a, K>,
     pub report: Report<V>,
 }

@@ -5,5 +5,4 @@ pub mod Peels
 pub mod Factors
 pub mod Counts
 pub mod Covering
-pub mod Turns
-pub mod Skips
+pub mod Walks

@@ -1,7 +1,6 @@
 // A reading as a step of a history.
 ghost use Rattle.std.specs.Prelude.{◌≡◌};
 ghost use Rattle.books.specs.Held.{sealed_book};
-ghost use Rattle.histories.specs.Runs.{History};
 ghost use Rattle.readings.specs.Readings.{worth_of_book, worth_of_product};
 ghost use Rattle.stages.specs.Asks.{read_told};
 ghost use Rattle.stages.specs.Stages.{reading_of, weighing_of, told_of, worth_outcome};
@@ -21,7 +20,7 @@ pub(crate) fn read<K: ProductKind, V: Measure>(
     book: &SealedBook<K>,
     asked: &Reading<V>,
 ) -> Outcome<V>
-    ensures { History K.cut (sealed_book K.meaning book.now) → told_of V.meaning result ≡ read_told V.semiring V.meaning (sealed_book K.meaning book.now) (reading_of asked.now) }
+    ensures { told_of V.meaning result ≡ read_told V.semiring V.meaning (sealed_book K.meaning book.now) (reading_of asked.now) }
 {
     Ok(match asked {
         Reading::Worth(weighing) => Answer::Worth(worth(book, weighing)?),
@@ -37,12 +36,10 @@ fn worth<K: ProductKind, V: Measure>(
     book: &SealedBook<K>,
     weighing: &Weighing<V>,
 ) -> Result<V, Refusal>
-    ensures { History K.cut (sealed_book K.meaning book.now) → told_of V.meaning (worth_outcome result) ≡ read_told V.semiring V.meaning (sealed_book K.meaning book.now) (worth_of_book (weighing_of weighing.now)) }
+    ensures { told_of V.meaning (worth_outcome result) ≡ read_told V.semiring V.meaning (sealed_book K.meaning book.now) (worth_of_book (weighing_of weighing.now)) }
 {
     let mut place = V::zero();
-    let works = weighing.works.as_slice();
-    let fails = weighing.fails.as_slice();
-    read_worth(book, works, fails, &weighing.card, &mut place)?;
+    read_worth(book, &weighing.lend(), &mut place)?;
     Ok(place)
 }
 
@@ -51,11 +48,9 @@ fn product_worth<K: ProductKind, V: Measure>(
     k: usize,
     weighing: &Weighing<V>,
 ) -> Result<V, Refusal>
-    ensures { History K.cut (sealed_book K.meaning book.now) → told_of V.meaning (worth_outcome result) ≡ read_told V.semiring V.meaning (sealed_book K.meaning book.now) (worth_of_product k (weighing_of weighing.now)) }
+    ensures { told_of V.meaning (worth_outcome result) ≡ read_told V.semiring V.meaning (sealed_book K.meaning book.now) (worth_of_product k (weighing_of weighing.now)) }
 {
     let mut place = V::zero();
-    let works = weighing.works.as_slice();
-    let fails = weighing.fails.as_slice();
-    read_product_worth(book, k, works, fails, &weighing.card, &mut place)?;
+    read_product_worth(book, k, &weighing.lend(), &mut place)?;
     Ok(place)
 }

@@ -1,8 +1,6 @@
-// The counts of a book, and one step of a history. What a reading tells is promised of every book that came to be by a
-// history.
+// The counts of a book, and one step of a history.
 ghost use Rattle.std.specs.Prelude.{◌≡◌, ℕ, length};
-ghost use Rattle.books.specs.Held.{open_book, sealed_book, open_space, sealed_space, SparedSpace};
-ghost use Rattle.histories.specs.Runs.{History};
+ghost use Rattle.books.specs.Held.{open_book, sealed_book, open_space, sealed_space, open_through, sealed_through, SparedSpace};
 ghost use Rattle.stages.specs.Asks.{next, answered, telling};
 ghost use Rattle.stages.specs.Stages.{ask_of, book_of, space_of, through_of, told_of, telling_of};
 
@@ -29,7 +27,7 @@ impl<'a, K: ProductKind> Stage<'a, K> {
     // The book after the step, and what is told of it. What the book does not allow leaves it as it is.
     pub fn step<V: Measure>(self, order: &Order<V>, work: &mut [K]) -> Stepped<'a, K, V>
         ensures next { book_of K.meaning result.stage ≡ next K.cut (book_of K.meaning self.entry) (ask_of (length work.old) order.now) }
-        ensures report { History K.cut (book_of K.meaning self.entry) → telling_of V.meaning result.report ≡ telling V.semiring V.meaning K.cut (book_of K.meaning self.entry) (ask_of (length work.old) order.now) }
+        ensures report { telling_of V.meaning result.report ≡ telling V.semiring V.meaning K.cut (book_of K.meaning self.entry) (ask_of (length work.old) order.now) }
         ensures spared { SparedSpace (space_of self.entry) (space_of result.stage) }
         ensures through { through_of result.stage ≡ through_of self.entry }
     {
@@ -66,7 +64,7 @@ fn step_open<'a, K: ProductKind, V: Measure>(
     ensures next { book_of K.meaning result.stage ≡ next K.cut (open_book K.meaning book.entry) (ask_of (length work.old) order.now) }
     ensures report { telling_of V.meaning result.report ≡ telling V.semiring V.meaning K.cut (open_book K.meaning book.entry) (ask_of (length work.old) order.now) }
     ensures spared { SparedSpace (open_space book.entry) (space_of result.stage) }
-    ensures through { through_of result.stage ≡ book.entry.slots.ghost_name }
+    ensures through { through_of result.stage ≡ open_through book.entry }
 {
     let mut book = book;
     match order {
@@ -87,9 +85,9 @@ fn step_sealed<'a, K: ProductKind, V: Measure>(
     order: &Order<V>,
 ) -> Stepped<'a, K, V>
     ensures next { (places : ℕ) → book_of K.meaning result.stage ≡ next K.cut (sealed_book K.meaning book.entry) (ask_of places order.now) }
-    ensures report { History K.cut (sealed_book K.meaning book.entry) → (places : ℕ) → telling_of V.meaning result.report ≡ telling V.semiring V.meaning K.cut (sealed_book K.meaning book.entry) (ask_of places order.now) }
+    ensures report { (places : ℕ) → telling_of V.meaning result.report ≡ telling V.semiring V.meaning K.cut (sealed_book K.meaning book.entry) (ask_of places order.now) }
     ensures space { space_of result.stage ≡ sealed_space book.entry }
-    ensures through { through_of result.stage ≡ book.entry.slots.ghost_name }
+    ensures through { through_of result.stage ≡ sealed_through book.entry }
 {
     match order {
         Order::Reopen => Stage::Open(book.reopen()).told(Ok(Answer::Taken)),

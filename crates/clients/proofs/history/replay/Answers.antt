@@ -9,11 +9,9 @@ use Rattle.stages.specs.declared.stage.HistoryStep.{HistoryStep}
 
 pub loop-init : goal.loop-init
 loop-init g c =
-    let measure = g.V.Measure in
-    let kind = g.K.ProductKind in
     let client = c.args.client.now in (
       c.requires,
-      led_nowhere measure.semiring measure.meaning kind.cut kind.meaning _ _ _ c.clear.ensures.items c.new.ensures.history,
+      led_nowhere c.clear.ensures.items,
       subst (λ xs. Asking (CalledAt g.C.FnMut) client xs client) (sym c.clear.ensures.items) nothing,
       omega arith,
       omega arith,
@@ -31,14 +29,12 @@ loop-preserved g c =
     let items = vec_items l.steps in
     let more : vec_items c.record.new.steps ≡ items ++ (step ∷ []) = c.record.ensures.items ∙ ap (λ xs. xs ++ (step ∷ [])) c.reserve.ensures.items in
     let asked : CalledAt g.C.FnMut l.client items c.client.result c.client.new.self = record {
-      shown = c.as_slice.result;
-      shows = c.as_slice.ensures.value ∙ c.reserve.ensures.items;
-      called = c.client.ensures;
+      shown = c.as_slice.result; shows = c.as_slice.ensures.value ∙ c.reserve.ensures.items; called = c.client.ensures;
     } in (
       search of_calls,
-      led_on measure.semiring measure.meaning kind.cut kind.meaning (length c.args.work.now) _ l.stage taken.result.stage items (vec_items c.record.new.steps) step l.invariant.1 more
+      led_on step l.invariant.1 more
           (taken.ensures.next ∙ ap (λ (n : ℕ). next kind.cut before (ask_of n order)) l.auto.work)
-          (taken.ensures.report l.invariant.1.past ∙ ap (λ (n : ℕ). telling measure.semiring measure.meaning kind.cut before (ask_of n order)) l.auto.work)
+          (taken.ensures.report ∙ ap (λ (n : ℕ). telling measure.semiring measure.meaning kind.cut before (ask_of n order)) l.auto.work)
           taken.ensures.spared taken.ensures.through,
       subst (λ xs. Asking (CalledAt g.C.FnMut) c.args.client.now xs c.client.new.self) (sym more)
           (one_more step l.invariant.2 (subst (λ r. CalledAt g.C.FnMut l.client items r c.client.new.self) c.in-Some.is asked)),
@@ -48,14 +44,8 @@ loop-preserved g c =
 
 pub returns-in_default-clause-replayed : goal.returns-in_default-clause-replayed
 returns-in_default-clause-replayed g c =
-    let measure = g.V.Measure in
-    let kind = g.K.ProductKind in
-    let n = c.args.parts in
-    led_replayed measure.semiring measure.meaning kind.cut kind.meaning _ g.met.K.ProductKind.lawful g.met.V.Measure.lawful n.count c.args.slots.now _ _ _ _ n.limit c.new.ensures.made c.new.ensures.space c.reserve.ensures.items c.loop.invariant.1
+    led_replayed g.met.K.ProductKind.lawful g.met.V.Measure.lawful c.args.parts.limit c.new.ensures.made c.new.ensures.space c.reserve.ensures.items c.loop.invariant.1
 
 pub returns-in_default-client-clause-replayed : goal.returns-in_default-client-clause-replayed
 returns-in_default-client-clause-replayed g c =
-    let measure = g.V.Measure in
-    let kind = g.K.ProductKind in
-    let n = c.args.parts in
-    led_replayed measure.semiring measure.meaning kind.cut kind.meaning _ g.met.K.ProductKind.lawful g.met.V.Measure.lawful n.count c.args.slots.now _ _ _ _ n.limit c.new.ensures.made c.new.ensures.space c.reserve.ensures.items c.loop.invariant.1
+    led_replayed g.met.K.ProductKind.lawful g.met.V.Measure.lawful c.args.parts.limit c.new.ensures.made c.new.ensures.space c.reserve.ensures.items c.loop.invariant.1

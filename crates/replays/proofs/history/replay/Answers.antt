@@ -1,4 +1,4 @@
-use Rattle.std.proofs.Common.{ℕ, ◌<◌, map, length, get_or, take, set, sym, ap, ◌∙◌, arith}
+use Rattle.std.proofs.Common.{ℕ, ◌<◌, map, length, get_or, set, sym, ap, ◌∙◌, arith}
 use Rattle.std.proofs.lemmas.List.{get_or-map, set-get_or, map-set, take_more_set, take_all}
 use Rattle.replays.proofs.Calls.{calls_agree}
 use Rattle.replays.proofs.Pasts.{led_on, led_replayed}
@@ -18,10 +18,9 @@ loop-step-preserved g c =
     let made : HistoryStep g.row.V.Denot = record { order = item.order; report = taken.result.report } in
     let here : i < length l.steps = omega (arith, l.auto.steps, c.loop-step-test.true) in
     let before = book_of kind.meaning l.stage in (
-      led_on measure.semiring measure.meaning kind.cut kind.meaning (length c.args.work.now) _ l.stage taken.result.stage (take i l.steps) _ made l.invariant.0
-          (take_more_set l.steps i made here)
+      led_on made l.invariant.0 (take_more_set l.steps i made here)
           (taken.ensures.next ∙ ap (λ (n : ℕ). next kind.cut before (ask_of n item.order)) l.auto.work)
-          (taken.ensures.report l.invariant.0.past ∙ ap (λ (n : ℕ). telling measure.semiring measure.meaning kind.cut before (ask_of n item.order)) l.auto.work)
+          (taken.ensures.report ∙ ap (λ (n : ℕ). telling measure.semiring measure.meaning kind.cut before (ask_of n item.order)) l.auto.work)
           taken.ensures.spared taken.ensures.through,
       map-set order_of l.steps i made ∙ ap (set (map order_of l.steps) i) (sym (get_or-map order_of l.steps i c.step-item.result item.order here))
           ∙ set-get_or (map order_of l.steps) i item.order ∙ l.invariant.1,
@@ -29,15 +28,12 @@ loop-step-preserved g c =
 
 pub returns : goal.returns
 returns g c =
-    let measure = g.V.Measure in
-    let kind = g.K.ProductKind in
     let l = c.loop-step in
-    let n = c.args.parts in
     let new = c.new.ensures in
     let all = take_all l.step-index l.steps (omega (arith, l.auto.steps, c.loop-step-test.false)) in
     record {
-      replayed = led_replayed measure.semiring measure.meaning kind.cut kind.meaning _ g.met.K.ProductKind.lawful g.met.V.Measure.lawful n.count c.args.slots.now _ _ _ _ n.limit new.made new.space (sym all) l.invariant.0;
+      replayed = led_replayed g.met.K.ProductKind.lawful g.met.V.Measure.lawful c.args.parts.limit new.made new.space (sym all) l.invariant.0;
       orders = l.invariant.1;
-      calls = calls_agree measure.semiring measure.meaning kind.cut;
+      calls = calls_agree g.V.Measure.semiring g.V.Measure.meaning g.K.ProductKind.cut;
       through = l.invariant.0.through ∙ new.through;
     }
