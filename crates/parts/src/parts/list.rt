@@ -5,7 +5,7 @@ pub mod keeping;
 
 use super::PartSet;
 
-// The list is the first `count` of `sets`.
+// The list is the first `count` of `sets`: an array with a count, since the engine has no heap and product kinds are `Copy`.
 #[derive(Clone, Copy)]
 pub struct PartSets<const N: usize> {
     sets: [PartSet; N],
