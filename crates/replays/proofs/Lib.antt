@@ -1,1 +1,2 @@
-mod Pasts
+pub mod Calls
+pub mod Pasts

@@ -1,36 +1,32 @@
--- What a book comes to step by step, and what each step answers. A call that the book does not allow is passed over.
-use Rattle.std.specs.Prelude.{ℕ, true, false, cond, List, [], ◌∷◌, take, Ok, Err, fold}
-use Rattle.histories.specs.Entry.{Book, Answer, answer}
-use Rattle.histories.specs.Runs.{Call, enter, seal, reopen, after_entry, marked}
+-- What a book comes to step by step, what is told of each step, and what holds of every book on the way.
+use Rattle.std.specs.Prelude.{◌≡◌, ℕ, List, [], ◌∷◌, map, take, fold}
+use Rattle.histories.specs.Entry.{Book, covered}
 use Rattle.histories.specs.Sound.{Sound}
+use Rattle.measures.specs.Lists.{total}
+use Rattle.measures.specs.Semiring.{Semiring}
 use Rattle.products.specs.Cutting.{Cut}
-use Rattle.replays.specs.declared.stage.Outcome.{Outcome}
-use Rattle.replays.specs.declared.stage.Outcome.TheVariants.{Taken, Refused, NotAllowed}
+use Rattle.products.specs.Product.{is_in}
+use Rattle.stages.specs.Asks.{Ask, Telling, next, telling}
+use Rattle.worths.specs.States.{worth_of}
 
--- the book after a call
-abbrev pub next : Cut → Book → Call → Book
-next cut b (enter places path) = cond b.is_sealed b (after_entry cut b path (answer cut b places path))
-next cut b seal = cond b.is_sealed b (marked true b)
-next cut b reopen = cond b.is_sealed (marked false b) b
-
-abbrev pub outcome_of : Answer → Outcome
-outcome_of (Ok _) = Taken
-outcome_of (Err refusal) = Refused refusal
-
--- what a call answers
-abbrev pub answered : Cut → Book → Call → Outcome
-answered cut b (enter places path) = cond b.is_sealed NotAllowed (outcome_of (answer cut b places path))
-answered cut b seal = cond b.is_sealed NotAllowed Taken
-answered cut b reopen = cond b.is_sealed Taken NotAllowed
-
--- the book after calls, one after the other, and what each of them answers
-abbrev pub after : Cut → Book → List Call → Book
+-- the book after all that is asked, one after the other
+abbrev pub after : {V : Type 0} → Cut → Book → List (Ask V) → Book
 after cut = fold (next cut)
 
-abbrev pub outcomes : Cut → Book → List Call → List Outcome
-outcomes cut b [] = []
-outcomes cut b (call ∷ calls) = answered cut b call ∷ outcomes cut (next cut b call) calls
+module _ (R : Semiring) {V : Type 0} (mean : V → R.Of) where
+  -- what is told of each
+  abbrev pub tellings : Cut → Book → List (Ask V) → List (Telling R.Of)
+  tellings cut b [] = []
+  tellings cut b (ask ∷ asks) = telling R mean cut b ask ∷ tellings cut (next cut b ask) asks
 
--- the book is sound at the start and after each of the calls
-abbrev pub SoundAlong : Cut → Book → List Call → Type 0
-SoundAlong cut b calls = (k : ℕ) → Sound cut (after cut b (take k calls))
+-- the book is sound at the start and after each thing asked
+abbrev pub SoundAlong : {V : Type 0} → Cut → Book → List (Ask V) → Type 0
+SoundAlong cut b asks = (k : ℕ) → Sound cut (after cut b (take k asks))
+
+-- whatever the parts weigh, the worths of the products add up to the worth of the states that contain an entered path
+abbrev pub Adding : Semiring → Book → Type 0
+Adding R b =
+    (W F : ℕ → R.Of) → total R (map (λ p. worth_of R b.parts W F (is_in p)) b.products) ≡ worth_of R b.parts W F (covered b.paths)
+
+abbrev pub AddingAlong : {V : Type 0} → Semiring → Cut → Book → List (Ask V) → Type 0
+AddingAlong R cut b asks = (k : ℕ) → Adding R (after cut b (take k asks))

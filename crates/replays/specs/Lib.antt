@@ -1,2 +1,3 @@
 pub mod Along
-pub mod Stages
+pub mod Calls
+pub mod Replayed

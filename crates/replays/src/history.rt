@@ -1,34 +1,34 @@
 // A whole history of a book, from the making on.
 ghost use Rattle.std.specs.Prelude.{◌≡◌, map, length};
-ghost use Rattle.histories.specs.Runs.{making};
-ghost use Rattle.replays.specs.Along.{after, outcomes, SoundAlong};
-ghost use Rattle.replays.specs.Stages.{calls_of, order_of, answer_of, book_of, through_of};
+ghost use Rattle.replays.specs.Calls.{CallsAgree};
+ghost use Rattle.replays.specs.Replayed.{Replayed};
+ghost use Rattle.stages.specs.Stages.{order_of, through_of};
 
-use crate::stage::{HistoryStep, Outcome, Stage};
 use books::OpenBook;
+use measures::Measure;
 use parts::PartCount;
 use products::ProductKind;
+use stages::{HistoryStep, Stage};
 
-// Makes a book over the slots lent and takes each step in turn; its answer goes beside it. After the making and after
-// each step no state is in two products, and the states in a product are those that contain an entered path.
-pub fn replay<'a, K: ProductKind>(
+// Makes a book over the slots lent and takes each step in turn; what is told of it goes beside it. After the making and
+// after each step no state is in two products, the states in a product are those that contain an entered path, and a worth
+// that is read is the worth of exactly these states.
+pub fn replay<'a, K: ProductKind, V: Measure>(
     parts: PartCount,
     slots: &'a mut [K],
     work: &mut [K],
-    steps: &mut [HistoryStep],
+    steps: &mut [HistoryStep<V>],
 ) -> Stage<'a, K>
-    ensures book { book_of K.meaning result ≡ after K.cut (making parts.count (length slots.old)) (calls_of (length work.old) steps.old) }
-    ensures answers { map answer_of steps.new ≡ outcomes K.cut (making parts.count (length slots.old)) (calls_of (length work.old) steps.old) }
+    ensures replayed { Replayed V.semiring V.meaning K.cut K.meaning parts.count slots.old (length work.old) steps.new result }
     ensures orders { map order_of steps.new ≡ map order_of steps.old }
-    ensures law { SoundAlong K.cut (making parts.count (length slots.old)) (calls_of (length work.old) steps.old) }
+    ensures calls { CallsAgree V.semiring V.meaning K.cut }
     ensures through { through_of result ≡ slots.entry.ghost_name }
 {
     let mut stage = Stage::Open(OpenBook::new(parts, slots));
-    for i in 0..steps.len() {
-        let order = steps[i].order;
-        let mut outcome = Outcome::NotAllowed;
-        stage = stage.step(order, work, &mut outcome);
-        steps[i] = HistoryStep { order, outcome };
+    for step in steps.iter_mut() {
+        let taken = stage.step(&step.order, work);
+        stage = taken.stage;
+        step.report = taken.report;
     }
     stage
 }

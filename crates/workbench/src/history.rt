@@ -1,8 +1,13 @@
 // A history of a book: the bridge's paths are entered in turn, and the book is sealed.
+use numbers::Count;
 use parts::{PartCount, PartSet};
 use products::ProductKind;
-use replays::{HistoryStep, Order, Outcome, replay};
+use replays::replay;
+use stages::{HistoryStep, NotTaken, Order, Report};
 use std::alloc::{AllocError, Global};
+
+// How many products the working space has.
+const WORKING_PLACES: usize = 64;
 
 // So many products that hold nothing yet.
 fn blank<K: ProductKind>(heap: Global, count: usize) -> Result<Vec<K>, AllocError> {
@@ -13,28 +18,29 @@ fn blank<K: ProductKind>(heap: Global, count: usize) -> Result<Vec<K>, AllocErro
     Ok(products)
 }
 
-// An entry for each path, and a sealing; the answers are still to come.
-fn steps_of(heap: Global, paths: &[PartSet]) -> Result<Vec<HistoryStep>, AllocError> {
-    let outcome = Outcome::NotAllowed;
+// An entry for each path, and a sealing; the answers are still to come. No worth is read, so any measure serves.
+fn steps_of(heap: Global, paths: &[PartSet]) -> Result<Vec<HistoryStep<Count>>, AllocError> {
+    let report = Report {
+        outcome: Err(NotTaken::NotAllowed),
+        paths: 0,
+        products: 0,
+    };
     let mut steps = Vec::new(heap);
     for path in paths {
-        let order = Order::Enter(*path);
-        steps.push(HistoryStep { order, outcome })?;
+        let order = Order::Enter(*path, WORKING_PLACES);
+        steps.push(HistoryStep { order, report })?;
     }
     let order = Order::Seal;
-    steps.push(HistoryStep { order, outcome })?;
+    steps.push(HistoryStep { order, report })?;
     Ok(steps)
 }
 
 // How many steps the book took.
-fn taken(steps: &[HistoryStep]) -> usize {
-    let mut count = 0usize;
-    for step in steps {
-        if let Outcome::Taken = step.outcome {
-            count = count.saturating_add(1);
-        }
-    }
-    count
+fn taken(steps: &[HistoryStep<Count>]) -> usize {
+    steps
+        .iter()
+        .filter(|step| step.report.outcome.is_ok())
+        .count()
 }
 
 pub(crate) fn run<K: ProductKind>(
@@ -44,7 +50,7 @@ pub(crate) fn run<K: ProductKind>(
 ) -> anyhow::Result<()> {
     let heap = rt.alloc();
     let mut slots = blank::<K>(heap, 4096)?;
-    let mut work = blank::<K>(heap, 64)?;
+    let mut work = blank::<K>(heap, WORKING_PLACES)?;
     let mut steps = steps_of(heap, paths)?;
     let stage = replay(
         parts,

@@ -1,15 +1,14 @@
 // A reading as a step of a history.
 ghost use Rattle.std.specs.Prelude.{◌≡◌};
 ghost use Rattle.books.specs.Held.{sealed_book};
-ghost use Rattle.histories.specs.Runs.{History};
-ghost use Rattle.stages.specs.Asks.{read_told};
 ghost use Rattle.readings.specs.Readings.{worth_of_book, worth_of_product};
-ghost use Rattle.stages.specs.Stages.{reading_of, weighing_of, told_of, number_outcome, parts_outcome};
+ghost use Rattle.stages.specs.Asks.{read_told};
+ghost use Rattle.stages.specs.Stages.{reading_of, weighing_of, told_of, worth_outcome};
 
-use super::{Outcome, Reading, Weighing};
+use crate::answer::{Answer, Outcome};
+use crate::order::{Reading, Weighing};
 use books::SealedBook;
 use measures::Measure;
-use parts::PartSet;
 use products::ProductKind;
 use readings::{
     read_covered, read_group, read_group_count, read_must, read_product_worth, read_worth,
@@ -21,60 +20,37 @@ pub(crate) fn read<K: ProductKind, V: Measure>(
     book: &SealedBook<K>,
     asked: &Reading<V>,
 ) -> Outcome<V>
-    ensures { History K.cut (sealed_book K.meaning book.now) → told_of V.meaning result ≡ read_told V.semiring V.meaning (sealed_book K.meaning book.now) (reading_of asked.now) }
+    ensures { told_of V.meaning result ≡ read_told V.semiring V.meaning (sealed_book K.meaning book.now) (reading_of asked.now) }
 {
-    match asked {
-        Reading::Worth(weighing) => worth(book, weighing),
-        Reading::ProductWorth(k, weighing) => product_worth(book, *k, weighing),
-        Reading::Covered => Outcome::Number(read_covered(book) as usize),
-        Reading::Must(k) => parts(read_must(book, *k)),
-        Reading::GroupCount(k) => number(read_group_count(book, *k)),
-        Reading::Group(k, j) => parts(read_group(book, *k, *j)),
-    }
+    Ok(match asked {
+        Reading::Worth(weighing) => Answer::Worth(worth(book, weighing)?),
+        Reading::ProductWorth(k, weighing) => Answer::Worth(product_worth(book, *k, weighing)?),
+        Reading::Covered => Answer::Number(read_covered(book) as usize),
+        Reading::Must(k) => Answer::Parts(read_must(book, *k)?),
+        Reading::GroupCount(k) => Answer::Number(read_group_count(book, *k)?),
+        Reading::Group(k, j) => Answer::Parts(read_group(book, *k, *j)?),
+    })
 }
 
-fn worth<K: ProductKind, V: Measure>(book: &SealedBook<K>, weighing: &Weighing<V>) -> Outcome<V>
-    ensures { History K.cut (sealed_book K.meaning book.now) → told_of V.meaning result ≡ read_told V.semiring V.meaning (sealed_book K.meaning book.now) (worth_of_book (weighing_of weighing.now)) }
+fn worth<K: ProductKind, V: Measure>(
+    book: &SealedBook<K>,
+    weighing: &Weighing<V>,
+) -> Result<V, Refusal>
+    ensures { told_of V.meaning (worth_outcome result) ≡ read_told V.semiring V.meaning (sealed_book K.meaning book.now) (worth_of_book (weighing_of weighing.now)) }
 {
     let mut place = V::zero();
-    let works = weighing.works.as_slice();
-    let fails = weighing.fails.as_slice();
-    match read_worth(book, works, fails, &weighing.card, &mut place) {
-        Ok(()) => Outcome::Worth(place),
-        Err(refusal) => Outcome::Refused(refusal),
-    }
+    read_worth(book, &weighing.lend(), &mut place)?;
+    Ok(place)
 }
 
 fn product_worth<K: ProductKind, V: Measure>(
     book: &SealedBook<K>,
     k: usize,
     weighing: &Weighing<V>,
-) -> Outcome<V>
-    ensures { History K.cut (sealed_book K.meaning book.now) → told_of V.meaning result ≡ read_told V.semiring V.meaning (sealed_book K.meaning book.now) (worth_of_product k (weighing_of weighing.now)) }
+) -> Result<V, Refusal>
+    ensures { told_of V.meaning (worth_outcome result) ≡ read_told V.semiring V.meaning (sealed_book K.meaning book.now) (worth_of_product k (weighing_of weighing.now)) }
 {
     let mut place = V::zero();
-    let works = weighing.works.as_slice();
-    let fails = weighing.fails.as_slice();
-    match read_product_worth(book, k, works, fails, &weighing.card, &mut place) {
-        Ok(()) => Outcome::Worth(place),
-        Err(refusal) => Outcome::Refused(refusal),
-    }
-}
-
-fn number<V>(read: Result<usize, Refusal>) -> Outcome<V>
-    ensures { result ≡ number_outcome read }
-{
-    match read {
-        Ok(number) => Outcome::Number(number),
-        Err(refusal) => Outcome::Refused(refusal),
-    }
-}
-
-fn parts<V>(read: Result<PartSet, Refusal>) -> Outcome<V>
-    ensures { result ≡ parts_outcome read }
-{
-    match read {
-        Ok(set) => Outcome::Parts(set),
-        Err(refusal) => Outcome::Refused(refusal),
-    }
+    read_product_worth(book, k, &weighing.lend(), &mut place)?;
+    Ok(place)
 }

@@ -1,52 +1,39 @@
-use Rattle.std.proofs.Common.{◌≡◌, ℕ, ◌<◌, [], ◌∷◌, ◌++◌, map, length, get_or, take, set, sym, ap, ◌∙◌, ap₂, arith}
-use lib.ListN.{length-map}
-use Rattle.std.proofs.lemmas.List.{get_or-map, set-get_or, map-set, map_push, take_more_set, take_all}
-use Rattle.books.specs.Held.{open_book}
-use Rattle.replays.specs.Along.{next, answered, after, outcomes}
-use Rattle.replays.specs.Stages.{call_of, calls_of, order_of, answer_of}
-use Rattle.replays.specs.declared.stage.HistoryStep.{HistoryStep}
-use Rattle.replays.proofs.Pasts.{sound_along, after_more, outcomes_more}
+use Rattle.std.proofs.Common.{ℕ, ◌<◌, map, length, get_or, set, sym, ap, ◌∙◌, arith}
+use Rattle.std.proofs.lemmas.List.{get_or-map, set-get_or, map-set, take_more_set, take_all}
+use Rattle.replays.proofs.Calls.{calls_agree}
+use Rattle.replays.proofs.Pasts.{led_on, led_replayed}
 use Rattle.replays.proofs.history.replay.Goals as goal
+use Rattle.stages.specs.Asks.{next, telling}
+use Rattle.stages.specs.Stages.{ask_of, book_of, order_of}
+use Rattle.stages.specs.declared.stage.HistoryStep.{HistoryStep}
 
-pub loop-i-preserved : goal.loop-i-preserved
-loop-i-preserved g c =
+pub loop-step-preserved : goal.loop-step-preserved
+loop-step-preserved g c =
+    let measure = g.V.Measure in
     let kind = g.K.ProductKind in
-    let l = c.loop-i in
-    let i = l.i in
-    let start = open_book kind.meaning c.new.result in
-    let o = (get_or l.steps i c.index-steps-i.result).order in
-    let made : HistoryStep = record { order = o; outcome = c.step-stage.new.outcome } in
-    let orders = map order_of c.args.steps.now in
-    let places = length c.args.work.now in
-    let same : length l.work ≡ places = l.auto.work in
-    let here : i < length l.steps = omega (arith, l.auto.steps, c.loop-i-test.true) in
-    let inside : i < length orders = omega (arith, length-map c.args.steps.now order_of, c.loop-i-test.true) in
-    let read-now = get_or-map order_of l.steps i c.index-steps-i.result o here in
-    let read : o ≡ get_or orders i o = sym read-now ∙ ap (λ xs. get_or xs i o) l.invariant.2 in
-    let outcome = c.step-stage.ensures.outcome ∙ ap₂ (λ b (n : ℕ). answered kind.cut b (call_of n o)) l.invariant.0 same in (
-      c.step-stage.ensures.next ∙ ap₂ (λ b (n : ℕ). next kind.cut b (call_of n o)) l.invariant.0 same
-          ∙ sym (after_more kind.cut start places orders i o inside read),
-      ap (map answer_of) (take_more_set l.steps i made here) ∙ map_push answer_of (take i l.steps) made
-          ∙ ap₂ (λ xs x. xs ++ (x ∷ [])) l.invariant.1 outcome
-          ∙ sym (outcomes_more kind.cut start places orders i o inside read),
-      map-set order_of l.steps i made ∙ ap (set (map order_of l.steps) i) (sym read-now) ∙ set-get_or (map order_of l.steps) i o ∙ l.invariant.2,
-      c.step-stage.ensures.through ∙ l.invariant.3,
+    let l = c.loop-step in
+    let i = l.step-index in
+    let taken = c.step-taken in
+    let item = get_or l.steps i c.step-item.result in
+    let made : HistoryStep g.row.V.Denot = record { order = item.order; report = taken.result.report } in
+    let here : i < length l.steps = omega (arith, l.auto.steps, c.loop-step-test.true) in
+    let before = book_of kind.meaning l.stage in (
+      led_on made l.invariant.0 (take_more_set l.steps i made here)
+          (taken.ensures.next ∙ ap (λ (n : ℕ). next kind.cut before (ask_of n item.order)) l.auto.work)
+          (taken.ensures.report ∙ ap (λ (n : ℕ). telling measure.semiring measure.meaning kind.cut before (ask_of n item.order)) l.auto.work)
+          taken.ensures.spared taken.ensures.through,
+      map-set order_of l.steps i made ∙ ap (set (map order_of l.steps) i) (sym (get_or-map order_of l.steps i c.step-item.result item.order here))
+          ∙ set-get_or (map order_of l.steps) i item.order ∙ l.invariant.1,
     )
 
 pub returns : goal.returns
 returns g c =
-    let kind = g.K.ProductKind in
-    let l = c.loop-i in
-    let steps = c.args.steps.now in
-    let calls = calls_of (length c.args.work.now) steps in
-    let n = c.args.parts in
-    let made = c.new.ensures.made in
-    let all-calls = take_all l.i calls (omega (arith, length-map (map order_of steps) (call_of (length c.args.work.now)), length-map steps order_of, c.loop-i-test.false)) in
-    let all-steps = take_all l.i l.steps (omega (arith, l.auto.steps, c.loop-i-test.false)) in
+    let l = c.loop-step in
+    let new = c.new.ensures in
+    let all = take_all l.step-index l.steps (omega (arith, l.auto.steps, c.loop-step-test.false)) in
     record {
-      book = l.invariant.0 ∙ ap₂ (after kind.cut) made all-calls;
-      answers = ap (map answer_of) (sym all-steps) ∙ l.invariant.1 ∙ ap₂ (outcomes kind.cut) made all-calls;
-      orders = l.invariant.2;
-      law = sound_along g.met.K.ProductKind.lawful n.count (length c.args.slots.now) n.limit.0 n.limit.1 calls;
-      through = l.invariant.3 ∙ c.new.ensures.through;
+      replayed = led_replayed g.met.K.ProductKind.lawful g.met.V.Measure.lawful c.args.parts.limit new.made new.space (sym all) l.invariant.0;
+      orders = l.invariant.1;
+      calls = calls_agree g.V.Measure.semiring g.V.Measure.meaning g.K.ProductKind.cut;
+      through = l.invariant.0.through ∙ new.through;
     }
