@@ -6,6 +6,7 @@ mod answers;
 mod command;
 mod desk;
 mod listing;
+mod misread;
 mod question;
 mod weights;
 mod words;
