@@ -2,20 +2,10 @@
 use crate::question::{Asked, Question};
 use crate::weights::Worth;
 use refusals::Refusal;
-use stages::{HistoryStep, Order, Outcome};
+use stages::{HistoryStep, Order};
 use std::io;
 
-pub(crate) fn print_step(rt: &HostRuntime, step: &HistoryStep<Worth>) -> io::Result<()> {
-    match step.report.outcome {
-        Outcome::Taken => print_taken(rt, step),
-        Outcome::Refused(refusal) => print_refusal(rt, refusal),
-        Outcome::NotAllowed => rt.println(why_not_allowed(&step.order)),
-        Outcome::Number(number) => println!(rt; "covered: {number}"),
-        Outcome::Worth(_) | Outcome::Parts(_) => Ok(()),
-    }
-}
-
-fn print_taken(rt: &HostRuntime, step: &HistoryStep<Worth>) -> io::Result<()> {
+pub(crate) fn print_taken(rt: &HostRuntime, step: &HistoryStep<Worth>) -> io::Result<()> {
     let paths = step.report.paths;
     let products = step.report.products;
     match &step.order {
@@ -33,7 +23,7 @@ pub(crate) fn print_refusal(rt: &HostRuntime, refusal: Refusal) -> io::Result<()
 }
 
 // What to do first, where the book, as it is open or sealed, does not allow the step.
-fn why_not_allowed(order: &Order<Worth>) -> &'static str {
+pub(crate) fn why_not_allowed(order: &Order<Worth>) -> &'static str {
     match order {
         Order::Enter(_, _) => "sealed: reopen first",
         Order::Seal => "already sealed",

@@ -69,7 +69,7 @@ impl BookOrder {
             None => 4096,
         };
         end(&mut words)?;
-        let parts = PartCount::new(parts)?;
+        let parts = PartCount::try_from(parts)?;
         Ok(BookOrder { kind, parts, slots })
     }
 }
@@ -101,7 +101,7 @@ fn lone_number<'a>(mut words: Words<'a>) -> Result<usize, Misread<'a>> {
 fn set_of<'a>(words: Words<'a>) -> Result<PartSet, Misread<'a>> {
     let mut set = PartSet::none();
     for word in words {
-        set = set.with(PartNumber::new(small_number(word)?)?);
+        set = set.with(PartNumber::try_from(small_number(word)?)?);
     }
     Ok(set)
 }

@@ -8,7 +8,7 @@ use crate::words::words_of;
 use crate::{answers, listing};
 use clients::Client;
 use settings::Settings;
-use stages::{HistoryStep, Order, Outcome, Reading};
+use stages::{Answer, HistoryStep, NotTaken, Order, Outcome, Reading};
 use std::io::{BufRead, BufReader, Stdin};
 
 #[derive(Drop)]
@@ -158,19 +158,33 @@ impl<'a> Desk<'a> {
 
     // Answers the step that was taken last; a list of products goes on with its next reading.
     fn hear(&mut self, step: &HistoryStep<Worth>) -> anyhow::Result<Option<Order<Worth>>> {
-        match (self.question.take(), &step.order, step.report.outcome) {
-            (Some(question), _, Outcome::Worth(worth)) => {
-                answers::print_worth(self.rt, &question, worth)?;
-                Ok(None)
-            }
-            (None, Order::Read(read), outcome) => {
-                Ok(listing::go_on(self.rt, read, outcome)?.map(Order::Read))
-            }
-            _ => {
-                answers::print_step(self.rt, step)?;
-                Ok(None)
-            }
+        let question = self.question.take();
+        match (&step.order, step.report.outcome) {
+            (order, Err(NotTaken::NotAllowed)) => self.rt.println(answers::why_not_allowed(order))?,
+            (Order::Read(read), outcome) => return self.hear_reading(read, outcome, question),
+            (_, Err(NotTaken::Refused(refusal))) => answers::print_refusal(self.rt, refusal)?,
+            (_, Ok(_)) => answers::print_taken(self.rt, step)?,
         }
+        Ok(None)
+    }
+
+    fn hear_reading(
+        &self,
+        read: &Reading<Worth>,
+        outcome: Outcome<Worth>,
+        question: Option<Question>,
+    ) -> anyhow::Result<Option<Order<Worth>>> {
+        match (read, outcome) {
+            (Reading::Must(_) | Reading::GroupCount(_) | Reading::Group(_, _), outcome) =>
+                return Ok(listing::go_on(self.rt, read, outcome)?.map(Order::Read)),
+            (_, Err(NotTaken::Refused(refusal))) => answers::print_refusal(self.rt, refusal)?,
+            (_, Ok(Answer::Number(count))) => println!(self.rt; "covered: {count}")?,
+            (_, Ok(Answer::Worth(worth))) => if let Some(question) = question {
+                answers::print_worth(self.rt, &question, worth)?;
+            },
+            _ => {}
+        }
+        Ok(None)
     }
 
     // Answers the step that was taken last, and goes on to the next one.

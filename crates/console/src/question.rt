@@ -33,7 +33,7 @@ impl Question {
                 break;
             }
             let index = small_number(due(&mut words)?)?;
-            trials.push(PartNumber::new(index)?)?;
+            trials.push(PartNumber::try_from(index)?)?;
             word = words.next().ok_or(Misread::ReadingMissing)?;
         }
         let (asked, product) = match word {

@@ -49,18 +49,18 @@ fn list<N: Copy, F: Fn(N) -> Result<Worth, Refusal>>(
 
 fn count(number: u32) -> Result<Worth, Refusal> {
     let mut weight = Worth::one();
-    weight.first = Count::new(number)?;
+    weight.first = Count::try_from(number)?;
     Ok(weight)
 }
 
 fn residue(number: u32) -> Result<Worth, Refusal> {
     let mut weight = Worth::one();
-    weight.second.first = Residue::new(number);
+    weight.second.first = Residue::from(number);
     Ok(weight)
 }
 
 fn life(number: f64) -> Result<Worth, Refusal> {
     let mut weight = Worth::one();
-    weight.second.second = Life::new(number)?;
+    weight.second.second = Life::try_from(number)?;
     Ok(weight)
 }
