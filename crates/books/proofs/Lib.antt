@@ -1,2 +1,4 @@
 mod Judging
+mod Filing
+pub mod Books
 pub mod Spaces

@@ -1,8 +1,10 @@
 -- In how many products of a list a state is, and where.
 use Rattle.std.proofs.Common.{◌≡◌, ℕ, zero, suc, ◌<◌, ◌≤◌, Bool, true, false, ◌||◌, List, [], ◌∷◌, ◌++◌, length, get_or, sym, refl, ap, ◌∙◌, arith}
+use Rattle.std.proofs.lemmas.Bool.{or_left, or_right}
+use Rattle.std.proofs.Math.Bool.{or-false, or_assoc}
 use Rattle.parts.specs.Sets.{within}
 use Rattle.products.specs.Product.{Meaning, product, is_in, how_many}
-use Rattle.products.proofs.Pieces.{one_if}
+use Rattle.products.proofs.Cuts.{one_if}
 use Rattle.histories.specs.Entry.{covered}
 
 -- product j of the row has the state
@@ -56,21 +58,9 @@ covered_some (path ∷ paths) s h = go (within path s) refl (covered_some paths 
 
 pub some_covered : (paths : List ℕ) (i s : ℕ) → i < length paths → within (get_or paths i 0) s ≡ true → covered paths s ≡ true
 some_covered [] i s l h = absurd (omega arith)
-some_covered (path ∷ paths) zero s l h = ap (λ b. b || covered paths s) h
-some_covered (path ∷ paths) (suc i) s l h = go (within path s) (some_covered paths i s (omega arith) h)
-  where
-    go : (a : Bool) {b : Bool} → b ≡ true → (a || b) ≡ true
-    go true e = refl
-    go false e = e
+some_covered (path ∷ paths) zero s l h = or_left (within path s) (covered paths s) h
+some_covered (path ∷ paths) (suc i) s l h = or_right (within path s) (covered paths s) (some_covered paths i s (omega arith) h)
 
 pub covered_push : (paths : List ℕ) (path s : ℕ) → covered (paths ++ (path ∷ [])) s ≡ (covered paths s || within path s)
-covered_push [] path s = go (within path s)
-  where
-    go : (b : Bool) → (b || false) ≡ b
-    go true = refl
-    go false = refl
-covered_push (p ∷ paths) path s = go (within p s) (covered paths s) (covered_push paths path s)
-  where
-    go : (a c : Bool) {b : Bool} → b ≡ (c || within path s) → (a || b) ≡ ((a || c) || within path s)
-    go true c e = refl
-    go false c e = e
+covered_push [] path s = or-false (within path s)
+covered_push (p ∷ paths) path s = ap (λ b. within p s || b) (covered_push paths path s) ∙ sym (or_assoc (within p s) (covered paths s) (within path s))

@@ -6,7 +6,7 @@ use Rattle.std.proofs.lemmas.Bool.{and_parts, and_from, eqb-false, not-true, not
 use Rattle.parts.specs.Sets.{within, empty, joined}
 use Rattle.products.specs.Product.{Meaning, lacks_each, is_in, how_many, tidy_from, tidy, names}
 use Rattle.parts.proofs.Bit.{In, bit_zero, bit_of_or, same_set, decides_within, decides_apart, in_below}
-use Rattle.products.proofs.Pieces.{one_if}
+use Rattle.products.proofs.Cuts.{one_if}
 use Rattle.products.specs.Law.{KindLaws}
 use Rattle.products.specs.Cutting.{Cut}
 use Rattle.histories.proofs.Fresh.{Good}

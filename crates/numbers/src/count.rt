@@ -16,10 +16,14 @@ pub struct Count {
 impl Count {
     // The largest count, at which sums and products stop.
     pub const CAP: u32 = 2_147_483_647;
+}
 
-    pub fn new(value: u32) -> Result<Count, Refusal>
-        ensures { Checked (λ n. n ≤ limit) ValueOutOfRange (λ c. c.value) value result }
-    {
+impl TryFrom<u32> for Count {
+    type Error = Refusal;
+
+    ghost try_from_gives = { Checked (λ n. n ≤ limit) ValueOutOfRange (λ c. c.value) };
+
+    fn try_from(value: u32) -> Result<Count, Refusal> {
         if value <= Self::CAP {
             Ok(Count { value })
         } else {

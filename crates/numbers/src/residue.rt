@@ -11,11 +11,13 @@ pub struct Residue {
 
 impl Residue {
     pub const MODULUS: u32 = 2_147_483_647;
+}
 
-    // The residue of a number, which is its remainder.
-    pub fn new(value: u32) -> Residue
-        ensures { result.value ≡ value % limit }
-    {
+// The residue of a number is its remainder.
+impl From<u32> for Residue {
+    ghost from_gives = { λ value result. result.value ≡ value % limit };
+
+    fn from(value: u32) -> Residue {
         Residue {
             value: value % Self::MODULUS,
         }

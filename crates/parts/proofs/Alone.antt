@@ -4,7 +4,7 @@ use lib.Bits.{bit_and, bit_or, and_step, and_le_l}
 use Rattle.std.specs.List.{AllByRecursion, range_with_len, filter}
 use Rattle.std.proofs.ByRecursion.{All-map, All-weaker}
 use Rattle.std.proofs.lemmas.Bool.Decides.{same_from_decides, Decides-like, Decides-and, nat_tests}
-use Rattle.parts.specs.Sets.{bit, has, within, empty, joined, parts}
+use Rattle.parts.specs.Sets.{bit, has, within, empty, joined, numbers, parts}
 use Rattle.parts.proofs.Bit.{In, bit_lt, bit_zero, bit_of_or, decides_within, decides_apart, same_set}
 use Rattle.parts.proofs.Tally.{times, bit_joined}
 
@@ -46,7 +46,7 @@ parts_from (suc d) n = go (n % 2) (omega arith) _ (parts_next d 0 n ∙ ap (map 
     go (suc (suc b)) h xs e = absurd (omega arith)
 
 pub parts_are : (n : ℕ) → parts n ≡ parts_of 24 n
-unfolding parts
+unfolding parts numbers
 parts_are n = parts_from 24 n
 
 pub half_below : (d n : ℕ) → n < 2 ^ suc d → n / 2 < 2 ^ d

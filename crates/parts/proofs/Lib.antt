@@ -3,3 +3,5 @@ pub mod Tally
 pub mod Alone
 pub mod Lowest
 pub mod Same
+pub mod All
+pub mod Numbers

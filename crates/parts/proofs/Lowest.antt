@@ -3,7 +3,7 @@ use Rattle.std.proofs.Common.{◌≡◌, ℕ, zero, suc, ◌+◌, ◌-◌, ◌/�
 use lib.Count.{ones, ones_step, count_trailing_zeros, under}
 use Rattle.std.proofs.lemmas.List.{drop_all}
 use Rattle.std.proofs.lemmas.Bool.{cases_lt}
-use Rattle.parts.specs.Sets.{without, parts}
+use Rattle.parts.specs.Sets.{without, numbers, parts}
 use Rattle.parts.proofs.Bit.{without_zero, without_half, without_low}
 use Rattle.parts.proofs.Alone.{double, lowest, parts_of, half_below, parts_are}
 
@@ -73,7 +73,7 @@ pub past_low : (n : ℕ) → 0 < n → n < 2 ^ 24 → parts (without n (2 ^ coun
 past_low n p h = parts_are (without n (2 ^ count_trailing_zeros 32 n)) ∙ rest_parts 24 32 n (omega arith) p h ∙ ap (drop 1) (sym (parts_are n))
 
 pub parts_none : parts 0 ≡ []
-unfolding parts
+unfolding parts numbers
 parts_none = refl
 
 pub low_place : (d k n : ℕ) → d ≤ k → 0 < n → n < 2 ^ d → count_trailing_zeros k n < d

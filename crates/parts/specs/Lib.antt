@@ -3,3 +3,4 @@ pub mod Sets
 pub mod Picks
 pub mod Bits
 pub mod With
+pub mod Lists

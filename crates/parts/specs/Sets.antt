@@ -27,6 +27,10 @@ abbrev pub joined : List ℕ → ℕ
 joined [] = 0
 joined (g ∷ gs) = bit_or g (joined gs)
 
+-- the numbers of the parts of n, in rising order
+unfoldable pub numbers : ℕ → List ℕ
+numbers n = filter (has n) (range_with_len 0 24)
+
 -- the parts of n, each alone, in rising number
 unfoldable pub parts : ℕ → List ℕ
-parts n = map (λ i. 2 ^ i) (filter (has n) (range_with_len 0 24))
+parts n = map (λ i. 2 ^ i) (numbers n)

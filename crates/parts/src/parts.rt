@@ -1,10 +1,12 @@
 // The three checked types. The ghost field of each is its limit, so that every value that exists is within it.
 ghost use Rattle.std.specs.Prelude.{◌^◌, ◌<◌, ◌≤◌};
 
+pub mod list;
 pub mod making;
 pub mod picking;
 pub mod sets;
 pub mod text;
+pub mod walking;
 
 // How many parts a machine has, from 1 to 24; its parts are numbered from 0.
 #[derive(Clone, Copy, PartialEq, Eq, Debug)]

@@ -1,4 +1,4 @@
 pub mod Tidied
-pub mod Pieces
+pub mod Cuts
 pub mod Counts
 mod Cuttings

@@ -10,12 +10,10 @@ impl<K: ProductKind> fmt::Display for Printed<K> {
     fn fmt<W: fmt::Write>(&self, f: &mut fmt::Formatter<W>) -> fmt::Result {
         let must = self.0.must();
         write!(f, "{must}")?;
-        let count = self.0.group_count();
-        if count > 0 {
+        if self.0.group_count() > 0 {
             f.write_str(" lack")?;
         }
-        for j in 0..count {
-            let group = self.0.group(j);
+        for group in self.0.groups() {
             write!(f, " {group}")?;
         }
         Ok(())

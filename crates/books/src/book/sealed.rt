@@ -1,7 +1,8 @@
 // A sealed book: its counts, its part count, its products, and reopening. None of them refuses.
-ghost use Rattle.std.specs.Prelude.{◌≡◌, length, take, Ok};
-ghost use Rattle.books.specs.Held.{open_book, sealed_book, open_space, sealed_space};
-ghost use Rattle.histories.specs.Runs.{History, Step, reopen};
+ghost use Rattle.std.specs.Prelude.{◌≡◌, length, Ok};
+ghost use Rattle.books.specs.Held.{open_book, sealed_book, open_space, sealed_space, open_through, sealed_through, sealed_parts, sealed_products};
+ghost use Rattle.histories.specs.Runs.{Step, reopen};
+ghost use Rattle.histories.specs.Sound.{Sound};
 
 use super::{OpenBook, SealedBook};
 use parts::PartCount;
@@ -13,44 +14,31 @@ impl<'a, K: ProductKind> SealedBook<'a, K> {
         ensures paths { result.0 ≡ length (sealed_book K.meaning self.now).paths }
         ensures products { result.1 ≡ length (sealed_book K.meaning self.now).products }
     {
-        (self.path_count, self.product_count)
+        self.contents.counts()
     }
 
     // How many parts its machine has.
     pub fn parts(&self) -> PartCount
-        ensures { result ≡ self.now.parts }
+        ensures { result ≡ sealed_parts self.now }
     {
-        self.parts
+        self.contents.parts
     }
 
     // The products, in the order in which they were filed.
     pub fn products(&self) -> &[K]
-        ensures { result.now ≡ take self.now.product_count self.now.slots.now }
+        ensures { result.now ≡ sealed_products self.now }
     {
-        let slots: &[K] = self.slots;
-        &slots[0..self.product_count]
+        self.contents.products()
     }
 
     pub fn reopen(self) -> OpenBook<'a, K>
         ensures step { Step K.cut (sealed_book K.meaning self.entry) reopen (Ok tt) (open_book K.meaning result) }
-        ensures history { History K.cut (sealed_book K.meaning self.entry) → History K.cut (open_book K.meaning result) }
-        ensures slots { result.slots.now ≡ self.entry.slots.now }
+        ensures sound { Sound K.cut (open_book K.meaning result) }
         ensures space { open_space result ≡ sealed_space self.entry }
-        ensures through { result.slots.ghost_name ≡ self.entry.slots.ghost_name }
+        ensures through { open_through result ≡ sealed_through self.entry }
     {
-        let SealedBook {
-            parts,
-            paths,
-            path_count,
-            slots,
-            product_count,
-        } = self;
         OpenBook {
-            parts,
-            paths,
-            path_count,
-            slots,
-            product_count,
+            contents: self.contents,
         }
     }
 }

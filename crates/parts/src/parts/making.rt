@@ -7,17 +7,21 @@ ghost use Rattle.refusals.specs.declared.refusal.Refusal.TheVariants.{PartCountO
 use super::{PartCount, PartNumber, PartSet};
 use refusals::Refusal;
 
-impl PartCount {
-    pub fn new(count: u32) -> Result<PartCount, Refusal>
-        ensures { Checked PartCountLimit PartCountOutOfRange (λ p. p.count) count result }
-    {
+impl TryFrom<u32> for PartCount {
+    type Error = Refusal;
+
+    ghost try_from_gives = { Checked PartCountLimit PartCountOutOfRange (λ p. p.count) };
+
+    fn try_from(count: u32) -> Result<PartCount, Refusal> {
         if 1 <= count && count <= 24 {
             Ok(PartCount { count })
         } else {
             Err(Refusal::PartCountOutOfRange)
         }
     }
+}
 
+impl PartCount {
     pub fn count(self) -> u32
         ensures value { result ≡ self.count }
         ensures limit { PartCountLimit result }
@@ -26,17 +30,21 @@ impl PartCount {
     }
 }
 
-impl PartNumber {
-    pub fn new(index: u32) -> Result<PartNumber, Refusal>
-        ensures { Checked PartNumberLimit PartNumberOutOfRange (λ p. p.index) index result }
-    {
+impl TryFrom<u32> for PartNumber {
+    type Error = Refusal;
+
+    ghost try_from_gives = { Checked PartNumberLimit PartNumberOutOfRange (λ p. p.index) };
+
+    fn try_from(index: u32) -> Result<PartNumber, Refusal> {
         if index < 24 {
             Ok(PartNumber { index })
         } else {
             Err(Refusal::PartNumberOutOfRange)
         }
     }
+}
 
+impl PartNumber {
     pub fn index(self) -> u32
         ensures value { result ≡ self.index }
         ensures limit { PartNumberLimit result }
@@ -45,17 +53,21 @@ impl PartNumber {
     }
 }
 
-impl PartSet {
-    pub fn new(bits: u32) -> Result<PartSet, Refusal>
-        ensures { Checked PartSetLimit PartSetOutOfRange (λ p. p.bits) bits result }
-    {
+impl TryFrom<u32> for PartSet {
+    type Error = Refusal;
+
+    ghost try_from_gives = { Checked PartSetLimit PartSetOutOfRange (λ p. p.bits) };
+
+    fn try_from(bits: u32) -> Result<PartSet, Refusal> {
         if bits < 1 << 24 {
             Ok(PartSet { bits })
         } else {
             Err(Refusal::PartSetOutOfRange)
         }
     }
+}
 
+impl PartSet {
     pub fn bits(self) -> u32
         ensures value { result ≡ self.bits }
         ensures limit { PartSetLimit result }

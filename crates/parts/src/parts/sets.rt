@@ -1,8 +1,21 @@
 // What can be asked of sets of parts, and the sets made from two others.
-ghost use Rattle.std.specs.Prelude.{◌≡◌, ◌^◌, bit_and, bit_or, nat_lt};
-ghost use Rattle.parts.specs.Sets.{has, within, without, empty};
+ghost use Rattle.std.specs.Prelude.{◌≡◌, ◌-◌, ◌^◌, bit_and, bit_or, nat_lt};
+ghost use Rattle.std.specs.List.{range_with_len};
+ghost use Rattle.parts.specs.Sets.{has, within, without, empty, numbers};
 
 use super::{PartCount, PartNumber, PartSet};
+
+impl PartCount {
+    // The set of all parts of a machine of that many parts.
+    pub fn all(self) -> PartSet
+        ensures bits { result.bits ≡ 2 ^ self.count - 1 }
+        ensures each { numbers result.bits ≡ range_with_len 0 self.count }
+    {
+        PartSet {
+            bits: (1 << self.count) - 1,
+        }
+    }
+}
 
 impl PartNumber {
     // The set of this part alone.

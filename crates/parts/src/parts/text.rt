@@ -5,14 +5,12 @@ use std::fmt;
 impl fmt::Display for PartSet {
     fn fmt<W: fmt::Write>(&self, f: &mut fmt::Formatter<W>) -> fmt::Result {
         f.write_str("{")?;
-        let mut rest = *self;
-        while let Some(part) = rest.lowest() {
-            let index = part.index;
-            write!(f, "{index}")?;
-            rest = rest.without_lowest();
-            if !rest.is_empty() {
-                f.write_str(",")?;
-            }
+        let mut parts = self.into_iter();
+        if let Some(first) = parts.next() {
+            write!(f, "{}", first.index)?;
+        }
+        for part in parts {
+            write!(f, ",{}", part.index)?;
         }
         f.write_str("}")
     }

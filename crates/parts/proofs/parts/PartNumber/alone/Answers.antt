@@ -7,6 +7,3 @@ invariant_of-result c =
     let i = c.args.self.index in
     let small : i < 32 = omega arith in
     record { limit = rw (one_shl i 32 small) (pow_below i 24 c.args.self.limit) }
-
-pub returns : goal.returns
-returns c = let small : c.args.self.index < 32 = omega arith in one_shl c.args.self.index 32 small

@@ -1,11 +1,7 @@
 use Rattle.std.proofs.Common.{sym}
 use lib.Count.{ones-le}
-use mir.Facts.{Fits-below}
 use Rattle.parts.proofs.Lowest.{count_parts}
 use Rattle.parts.proofs.parts.PartSet.count.Goals as goal
-
-pub overflow_cast-result : goal.overflow_cast-result
-overflow_cast-result c = Fits-below {n = 24} tt (ones-le 24 c.args.self.bits c.args.self.limit)
 
 pub returns : goal.returns
 returns c =
