@@ -1,22 +1,11 @@
-// What the console says of a step, of a reading, and of a line that it does not understand.
-use crate::command::Misread;
+// What the console says of a step and of a reading.
 use crate::question::{Asked, Question};
 use crate::weights::Worth;
 use refusals::Refusal;
-use stages::{HistoryStep, Order, Outcome};
+use stages::{HistoryStep, Order};
 use std::io;
 
-pub(crate) fn print_step(rt: &HostRuntime, step: &HistoryStep<Worth>) -> io::Result<()> {
-    match step.report.outcome {
-        Outcome::Taken => print_taken(rt, step),
-        Outcome::Refused(refusal) => print_refusal(rt, refusal),
-        Outcome::NotAllowed => rt.println(why_not_allowed(&step.order)),
-        Outcome::Number(number) => println!(rt; "covered: {number}"),
-        Outcome::Worth(_) | Outcome::Parts(_) => Ok(()),
-    }
-}
-
-fn print_taken(rt: &HostRuntime, step: &HistoryStep<Worth>) -> io::Result<()> {
+pub(crate) fn print_taken(rt: &HostRuntime, step: &HistoryStep<Worth>) -> io::Result<()> {
     let paths = step.report.paths;
     let products = step.report.products;
     match &step.order {
@@ -34,7 +23,7 @@ pub(crate) fn print_refusal(rt: &HostRuntime, refusal: Refusal) -> io::Result<()
 }
 
 // What to do first, where the book, as it is open or sealed, does not allow the step.
-fn why_not_allowed(order: &Order<Worth>) -> &'static str {
+pub(crate) fn why_not_allowed(order: &Order<Worth>) -> &'static str {
     match order {
         Order::Enter(_, _) => "sealed: reopen first",
         Order::Seal => "already sealed",
@@ -71,29 +60,4 @@ pub(crate) fn print_worth(rt: &HostRuntime, question: &Question, worth: Worth) -
             println!(rt; ": {life}")
         }
     }
-}
-
-pub(crate) fn print_misread(rt: &HostRuntime, words: &[&str], misread: Misread) -> io::Result<()> {
-    match misread {
-        Misread::Unknown(at) => print_word(rt, "unknown", words, at),
-        Misread::NotANumber(at) => print_word(rt, "not a number", words, at),
-        Misread::OneTooMany(at) => print_word(rt, "one word too many", words, at),
-        Misread::KindMissing => rt.println("missing: a kind, a or h"),
-        Misread::NumberMissing => rt.println("missing: a number"),
-        Misread::ReadingMissing => rt.println("missing: count, residue or life"),
-        Misread::NoMemory | Misread::Refused(_) => print_unweighed(rt, misread),
-    }
-}
-
-// Why the weights of a line cannot be had.
-pub(crate) fn print_unweighed(rt: &HostRuntime, misread: Misread) -> io::Result<()> {
-    match misread {
-        Misread::Refused(refusal) => print_refusal(rt, refusal),
-        _ => rt.println("no memory is left for this line"),
-    }
-}
-
-fn print_word(rt: &HostRuntime, what: &str, words: &[&str], at: usize) -> io::Result<()> {
-    let word = words.get(at).copied().unwrap_or("");
-    println!(rt; "{what}: {word}")
 }

@@ -1,32 +1,23 @@
 // The desk at which lines are read and answered. It is the client that asks a book for steps.
 mod settings;
 
-use crate::answers;
 use crate::command::{BookOrder, Command};
-use crate::listing::Listing;
 use crate::question::Question;
 use crate::weights::Worth;
 use crate::words::words_of;
+use crate::{answers, listing};
 use clients::Client;
 use settings::Settings;
-use stages::{HistoryStep, Order, Outcome, Reading};
+use stages::{Answer, HistoryStep, NotTaken, Order, Outcome, Reading};
 use std::io::{BufRead, BufReader, Stdin};
-use std::mem;
-
-// What the answer that comes next is for.
-#[derive(Drop)]
-enum Waiting {
-    Step,
-    List(Listing),
-    Worth(Question),
-}
 
 #[derive(Drop)]
 pub(crate) struct Desk<'a> {
     rt: &'a HostRuntime,
     lines: BufReader<Stdin>,
     settings: Settings,
-    waiting: Waiting,
+    // The question that the next worth answers.
+    question: Option<Question>,
     // The book whose line ended the history of the one before.
     ordered: Option<BookOrder>,
     // What ended the reading of lines early.
@@ -39,7 +30,7 @@ impl<'a> Desk<'a> {
             rt,
             lines: BufReader::new(rt.alloc(), rt.stdin())?,
             settings: Settings::new(rt.alloc()),
-            waiting: Waiting::Step,
+            question: None,
             ordered: None,
             trouble: None,
         })
@@ -104,18 +95,13 @@ impl<'a> Desk<'a> {
             Command::Seal => Ok(Some(Order::Seal)),
             Command::Reopen => Ok(Some(Order::Reopen)),
             Command::Covered => Ok(Some(Order::Read(Reading::Covered))),
-            Command::Products => Ok(Some(self.list(Listing::Must(0)))),
+            Command::Products => Ok(Some(Order::Read(Reading::Must(0)))),
             Command::Worth(question) => self.ask_worth(question),
             setting => {
                 self.settings.set(self.rt, setting)?;
                 Ok(None)
             }
         }
-    }
-
-    fn list(&mut self, listing: Listing) -> Order<Worth> {
-        self.waiting = Waiting::List(listing);
-        listing.order()
     }
 
     // The order of a question for a worth; weights that the measure refuses are answered here.
@@ -126,11 +112,11 @@ impl<'a> Desk<'a> {
                     Some(product) => Reading::ProductWorth(product, weighing),
                     None => Reading::Worth(weighing),
                 };
-                self.waiting = Waiting::Worth(question);
+                self.question = Some(question);
                 Ok(Some(Order::Read(reading)))
             }
             Err(misread) => {
-                answers::print_unweighed(self.rt, misread)?;
+                println!(self.rt; "{misread}")?;
                 Ok(None)
             }
         }
@@ -155,16 +141,16 @@ impl<'a> Desk<'a> {
 
     // Echoes a line that has words, and reads its command; what is not understood is answered here.
     fn take_line(&self, line: &str) -> anyhow::Result<Option<Command>> {
-        let words = words_of(self.rt.alloc(), line)?;
-        if words.is_empty() {
+        let mut words = words_of(line);
+        let Some(first) = words.next() else {
             return Ok(None);
-        }
+        };
         let echoed = line.trim_end();
         println!(self.rt; "> {echoed}")?;
-        match Command::read(self.rt.alloc(), words.as_slice()) {
+        match Command::read(self.rt.alloc(), first, words) {
             Ok(command) => Ok(Some(command)),
             Err(misread) => {
-                answers::print_misread(self.rt, words.as_slice(), misread)?;
+                println!(self.rt; "{misread}")?;
                 Ok(None)
             }
         }
@@ -172,21 +158,31 @@ impl<'a> Desk<'a> {
 
     // Answers the step that was taken last; a list of products goes on with its next reading.
     fn hear(&mut self, step: &HistoryStep<Worth>) -> anyhow::Result<Option<Order<Worth>>> {
-        let outcome = step.report.outcome;
-        match mem::replace(&mut self.waiting, Waiting::Step) {
-            Waiting::Worth(question) => match outcome {
-                Outcome::Worth(worth) => answers::print_worth(self.rt, &question, worth)?,
-                _ => answers::print_step(self.rt, step)?,
+        let question = self.question.take();
+        match (&step.order, step.report.outcome) {
+            (order, Err(NotTaken::NotAllowed)) => self.rt.println(answers::why_not_allowed(order))?,
+            (Order::Read(read), outcome) => return self.hear_reading(read, outcome, question),
+            (_, Err(NotTaken::Refused(refusal))) => answers::print_refusal(self.rt, refusal)?,
+            (_, Ok(_)) => answers::print_taken(self.rt, step)?,
+        }
+        Ok(None)
+    }
+
+    fn hear_reading(
+        &self,
+        read: &Reading<Worth>,
+        outcome: Outcome<Worth>,
+        question: Option<Question>,
+    ) -> anyhow::Result<Option<Order<Worth>>> {
+        match (read, outcome) {
+            (Reading::Must(_) | Reading::GroupCount(_) | Reading::Group(_, _), outcome) =>
+                return Ok(listing::go_on(self.rt, read, outcome)?.map(Order::Read)),
+            (_, Err(NotTaken::Refused(refusal))) => answers::print_refusal(self.rt, refusal)?,
+            (_, Ok(Answer::Number(count))) => println!(self.rt; "covered: {count}")?,
+            (_, Ok(Answer::Worth(worth))) => if let Some(question) = question {
+                answers::print_worth(self.rt, &question, worth)?;
             },
-            Waiting::List(listing) => match outcome {
-                Outcome::NotAllowed => answers::print_step(self.rt, step)?,
-                _ => {
-                    if let Some(next) = listing.go_on(self.rt, outcome)? {
-                        return Ok(Some(self.list(next)));
-                    }
-                }
-            },
-            Waiting::Step => answers::print_step(self.rt, step)?,
+            _ => {}
         }
         Ok(None)
     }

@@ -6,6 +6,7 @@ mod answers;
 mod command;
 mod desk;
 mod listing;
+mod misread;
 mod question;
 mod weights;
 mod words;
@@ -14,9 +15,7 @@ use anyhow::anyhow;
 use clients::{Ending, replay};
 use command::{BookOrder, Kind};
 use desk::Desk;
-use parts::PartSet;
-use products::ProductKind;
-use std::alloc::{AllocError, Global};
+use products::{ProductKind, blank_products};
 
 // How many slots a book uses at most, and how many places an entry asks for at least. More would never be touched, so
 // no more are set aside.
@@ -52,8 +51,8 @@ fn work_on<K: ProductKind>(
 ) -> anyhow::Result<Option<BookOrder>> {
     desk.start(book)?;
     let heap = rt.alloc();
-    let mut slots = blank::<K>(heap, book.slots.min(MOST_SLOTS))?;
-    let mut work = blank::<K>(heap, WORKING_PLACES)?;
+    let mut slots = blank_products::<K>(heap, book.slots.min(MOST_SLOTS))?;
+    let mut work = blank_products::<K>(heap, WORKING_PLACES)?;
     let mut steps = Vec::new(heap);
     let letter = char::from(K::LETTER);
     let parts = book.parts.count();
@@ -72,13 +71,4 @@ fn work_on<K: ProductKind>(
         return Err(anyhow!("no memory is left for a further step"));
     }
     desk.next_book()
-}
-
-// So many products that hold nothing yet.
-fn blank<K: ProductKind>(heap: Global, count: usize) -> Result<Vec<K>, AllocError> {
-    let mut products = Vec::new(heap);
-    for _ in 0..count {
-        products.push(K::start(PartSet::none()))?;
-    }
-    Ok(products)
 }

@@ -1,6 +1,6 @@
 // The weights that a question is read with. One value holds a weight of every measure, side by side; a question is about
 // one of them, and the others are one.
-use crate::command::Misread;
+use crate::misread::Misread;
 use crate::question::Asked;
 use cards::Card;
 use lives::Life;
@@ -8,7 +8,7 @@ use measures::{Measure, Pair};
 use numbers::{Count, Residue};
 use refusals::Refusal;
 use stages::Weighing;
-use std::alloc::{AllocError, Global};
+use std::alloc::Global;
 
 pub(crate) type Worth = Pair<Count, Pair<Residue, Life>>;
 
@@ -20,58 +20,47 @@ pub(crate) fn weighing(
     fails: &[u32],
     parts: usize,
     card: Card,
-) -> Result<Weighing<Worth>, Misread> {
+) -> Result<Weighing<Worth>, Misread<'static>> {
     let (works, fails) = match asked {
-        Asked::Count => (counts(heap, works)?, counts(heap, fails)?),
-        Asked::Residue => (residues(heap, works)?, residues(heap, fails)?),
-        Asked::Life(lives) => (self::lives(heap, lives.as_slice())?, ones(heap, parts)?),
+        Asked::Count => (list(heap, works, count)?, list(heap, fails, count)?),
+        Asked::Residue => (list(heap, works, residue)?, list(heap, fails, residue)?),
+        Asked::Life(lives) => (
+            list(heap, lives.as_slice(), life)?,
+            vec![in heap; Worth::one(); parts]?,
+        ),
     };
     Ok(Weighing { works, fails, card })
 }
 
-fn counts(heap: Global, numbers: &[u32]) -> Result<Vec<Worth>, Misread> {
+// The weight of each number.
+fn list<N: Copy, F: Fn(N) -> Result<Worth, Refusal>>(
+    heap: Global,
+    numbers: &[N],
+    weight: F,
+) -> Result<Vec<Worth>, Misread<'static>>
+    requires { F.IsAlwaysCallable weight }
+{
     let mut list = Vec::new(heap);
     for number in numbers {
-        let mut weight = one();
-        weight.first = Count::new(*number)?;
-        keep(&mut list, weight)?;
+        list.push(weight(*number)?)?;
     }
     Ok(list)
 }
 
-fn residues(heap: Global, numbers: &[u32]) -> Result<Vec<Worth>, Misread> {
-    let mut list = Vec::new(heap);
-    for number in numbers {
-        let mut weight = one();
-        weight.second.first = Residue::new(*number);
-        keep(&mut list, weight)?;
-    }
-    Ok(list)
+fn count(number: u32) -> Result<Worth, Refusal> {
+    let mut weight = Worth::one();
+    weight.first = Count::try_from(number)?;
+    Ok(weight)
 }
 
-fn lives(heap: Global, numbers: &[f64]) -> Result<Vec<Worth>, Misread> {
-    let mut list = Vec::new(heap);
-    for number in numbers {
-        let mut weight = one();
-        weight.second.second = Life::new(*number)?;
-        keep(&mut list, weight)?;
-    }
-    Ok(list)
+fn residue(number: u32) -> Result<Worth, Refusal> {
+    let mut weight = Worth::one();
+    weight.second.first = Residue::from(number);
+    Ok(weight)
 }
 
-fn ones(heap: Global, count: usize) -> Result<Vec<Worth>, Misread> {
-    let mut list = Vec::new(heap);
-    for _ in 0..count {
-        keep(&mut list, one())?;
-    }
-    Ok(list)
-}
-
-fn one() -> Worth {
-    Worth::one()
-}
-
-fn keep(list: &mut Vec<Worth>, weight: Worth) -> Result<(), AllocError> {
-    list.push(weight)?;
-    Ok(())
+fn life(number: f64) -> Result<Worth, Refusal> {
+    let mut weight = Worth::one();
+    weight.second.second = Life::try_from(number)?;
+    Ok(weight)
 }

@@ -1,72 +1,66 @@
-// The words of a line, and the numbers among them.
-use crate::command::Misread;
+// The words of a line, taken one after the other, and the numbers among them.
+use crate::misread::Misread;
 use refusals::Refusal;
-use std::alloc::{AllocError, Global};
+use std::alloc::Global;
+use std::str::SplitAsciiWhitespace;
+
+// The words of a line that are still to be read.
+pub(crate) type Words<'a> = SplitAsciiWhitespace<'a>;
 
 // The words before a `#`, which starts a comment.
-pub(crate) fn words_of<'a>(heap: Global, line: &'a str) -> Result<Vec<&'a str>, AllocError> {
+pub(crate) fn words_of(line: &str) -> Words<'_> {
     let said = match line.split_once('#') {
         Some((said, _)) => said,
         None => line,
     };
-    said.split_ascii_whitespace().collect(heap)
+    said.split_ascii_whitespace()
 }
 
-// Word `at` as a number in decimal digits; one that is too large counts as the largest.
-pub(crate) fn number(words: &[&str], at: usize) -> Result<usize, Misread> {
-    let Some(word) = words.get(at) else {
-        return Err(Misread::NumberMissing);
-    };
+// A number in decimal digits; one that is too large counts as the largest.
+pub(crate) fn number<'a>(word: &'a str) -> Result<usize, Misread<'a>> {
     let mut value = 0usize;
     for byte in word.bytes() {
-        let digit = match byte {
-            b'0'..=b'9' => byte - b'0',
-            _ => return Err(Misread::NotANumber(at)),
-        };
-        value = value.saturating_mul(10).saturating_add(usize::from(digit));
+        if !byte.is_ascii_digit() {
+            return Err(Misread::NotANumber(word));
+        }
+        let digit = usize::from(byte - b'0');
+        value = value.saturating_mul(10).saturating_add(digit);
     }
     Ok(value)
 }
 
 // The same for a number of 32 bits.
-pub(crate) fn small_number(words: &[&str], at: usize) -> Result<u32, Misread> {
-    let value = number(words, at)?;
-    Ok(u32::try_from(value).unwrap_or(u32::MAX))
+pub(crate) fn small_number<'a>(word: &'a str) -> Result<u32, Misread<'a>> {
+    Ok(u32::try_from(number(word)?).unwrap_or(u32::MAX))
 }
 
-// The weights that follow the first word: numbers of 32 bits.
-pub(crate) fn weights(heap: Global, words: &[&str]) -> Result<Vec<u32>, Misread> {
-    let mut list = Vec::new(heap);
-    for at in 1..words.len() {
-        match u32::try_from(number(words, at)?) {
-            Ok(weight) => push(&mut list, weight)?,
-            Err(_) => return Err(Misread::Refused(Refusal::ValueOutOfRange)),
-        }
+// The next word, where a number is due.
+pub(crate) fn due<'a>(words: &mut Words<'a>) -> Result<&'a str, Misread<'a>> {
+    words.next().ok_or(Misread::NumberMissing)
+}
+
+// Refuses a further word.
+pub(crate) fn end<'a>(words: &mut Words<'a>) -> Result<(), Misread<'a>> {
+    match words.next() {
+        Some(word) => Err(Misread::OneTooMany(word)),
+        None => Ok(()),
     }
-    Ok(list)
 }
 
-// The numbers from word `first` on, with a point where they are not whole.
-pub(crate) fn reals(heap: Global, words: &[&str], first: usize) -> Result<Vec<f64>, Misread> {
-    let mut list = Vec::new(heap);
-    for at in first..words.len() {
-        match words[at].parse::<f64>() {
-            Ok(real) => push(&mut list, real)?,
-            Err(_) => return Err(Misread::NotANumber(at)),
-        }
-    }
-    Ok(list)
+// The words as weights: numbers of 32 bits.
+pub(crate) fn weights<'a>(heap: Global, words: Words<'a>) -> Result<Vec<u32>, Misread<'a>> {
+    words.map(weight).try_collect(heap)
 }
 
-fn push<T: Drop>(list: &mut Vec<T>, item: T) -> Result<(), AllocError> {
-    list.push(item)?;
-    Ok(())
+fn weight<'a>(word: &'a str) -> Result<u32, Misread<'a>> {
+    u32::try_from(number(word)?).map_err(|_| Misread::Refused(Refusal::ValueOutOfRange))
 }
 
-// Refuses a line of more words than that.
-pub(crate) fn at_most(words: &[&str], count: usize) -> Result<(), Misread> {
-    if words.len() > count {
-        return Err(Misread::OneTooMany(count));
-    }
-    Ok(())
+// The words as numbers, with a point where they are not whole.
+pub(crate) fn reals<'a>(heap: Global, words: Words<'a>) -> Result<Vec<f64>, Misread<'a>> {
+    words.map(real).try_collect(heap)
+}
+
+fn real<'a>(word: &'a str) -> Result<f64, Misread<'a>> {
+    word.parse::<f64>().map_err(|_| Misread::NotANumber(word))
 }

@@ -15,7 +15,7 @@ fn cut_gives<K: ProductKind>(
     path: u32,
     written: &[&str],
 ) -> Result<(), Fail> {
-    let path = PartSet::new(path)?;
+    let path = PartSet::try_from(path)?;
     assert_eq!(rt; product.piece_count(path), written.len());
     for (k, text) in written.iter().enumerate() {
         let piece = Printed(product.piece(path, k));
@@ -28,8 +28,8 @@ fn cut_gives<K: ProductKind>(
 #[test]
 fn single_cuts(rt: HostRuntime) -> Result<(), Fail> {
     let heap = rt.alloc();
-    let start = SingleProduct::start(PartSet::new(0b00001)?);
-    let failed = start.piece(PartSet::new(0b00010)?, 0);
+    let start = SingleProduct::start(PartSet::try_from(0b00001)?);
+    let failed = start.piece(PartSet::try_from(0b00010)?, 0);
     cut_gives(&rt, heap, &start, 0b00010, &["{0} lack {1}"])?;
     cut_gives(
         &rt,
@@ -48,18 +48,18 @@ fn single_cuts(rt: HostRuntime) -> Result<(), Fail> {
 
 #[test]
 fn states_of_pieces(rt: HostRuntime) -> Result<(), Fail> {
-    let start = SingleProduct::start(PartSet::new(0b00001)?);
-    let path = PartSet::new(0b00110)?;
-    assert_eq!(rt; pieces_that_hold(&start, path, PartSet::new(0b00011)?), 1);
-    assert_eq!(rt; pieces_that_hold(&start, path, PartSet::new(0b00111)?), 0);
+    let start = SingleProduct::start(PartSet::try_from(0b00001)?);
+    let path = PartSet::try_from(0b00110)?;
+    assert_eq!(rt; pieces_that_hold(&start, path, PartSet::try_from(0b00011)?), 1);
+    assert_eq!(rt; pieces_that_hold(&start, path, PartSet::try_from(0b00111)?), 0);
     Ok(())
 }
 
 #[test]
 fn group_cuts(rt: HostRuntime) -> Result<(), Fail> {
     let heap = rt.alloc();
-    let start = GroupProduct::start(PartSet::new(0b00001)?);
-    let grouped = start.piece(PartSet::new(0b01110)?, 0);
+    let start = GroupProduct::start(PartSet::try_from(0b00001)?);
+    let grouped = start.piece(PartSet::try_from(0b01110)?, 0);
     cut_gives(&rt, heap, &start, 0b01110, &["{0} lack {1,2,3}"])?;
     cut_gives(
         &rt,

@@ -1,8 +1,9 @@
 // Books of both kinds: the bridge, and the refusals of entries at their limits.
 use books::OpenBook;
 use parts::{PartCount, PartSet};
-use products::ProductKind;
-use std::alloc::{AllocError, Global};
+use products::{ProductKind, blank_products};
+use refusals::Refusal;
+use std::alloc::Global;
 use std::test::Fail;
 
 // What came of a run of entries: the number of each refusal, if any, and the two counts at the end.
@@ -10,15 +11,6 @@ use std::test::Fail;
 struct Run {
     refused: Vec<Option<u8>>,
     counts: (usize, usize),
-}
-
-// So many products that hold nothing yet.
-fn blank<K: ProductKind>(heap: Global, count: usize) -> Result<Vec<K>, AllocError> {
-    let mut products = Vec::new(heap);
-    for _ in 0..count {
-        products.push(K::start(PartSet::none()))?;
-    }
-    Ok(products)
 }
 
 // Enters the sets with these bits into a new book.
@@ -29,17 +21,13 @@ fn enter_all<K: ProductKind>(
     places: usize,
     paths: &[u32],
 ) -> Result<Run, Fail> {
-    let mut slots = blank::<K>(heap, slots)?;
-    let mut work = blank::<K>(heap, places)?;
+    let mut slots = blank_products::<K>(heap, slots)?;
+    let mut work = blank_products::<K>(heap, places)?;
     let mut refused = Vec::new(heap);
-    let mut book = OpenBook::new(PartCount::new(parts)?, slots.as_mut_slice());
+    let mut book = OpenBook::new(PartCount::try_from(parts)?, slots.as_mut_slice());
     for path in paths {
-        refused.push(
-            match book.enter(PartSet::new(*path)?, work.as_mut_slice()) {
-                Ok(()) => None,
-                Err(refusal) => Some(refusal.number()),
-            },
-        )?;
+        let entered = book.enter(PartSet::try_from(*path)?, work.as_mut_slice());
+        refused.push(entered.err().map(Refusal::number))?;
     }
     let counts = book.counts();
     Ok(Run { refused, counts })

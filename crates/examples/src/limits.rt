@@ -3,34 +3,26 @@ use parts::{PartCount, PartNumber, PartSet};
 use refusals::Refusal;
 use std::test::Fail;
 
-// The number of the refusal, if the value is refused.
-fn refused<T: Drop>(made: Result<T, Refusal>) -> Option<u8> {
-    match made {
-        Ok(_) => None,
-        Err(refusal) => Some(refusal.number()),
-    }
-}
-
 #[test]
 fn part_counts(rt: HostRuntime) -> Result<(), Fail> {
-    assert_eq!(rt; PartCount::new(24)?.count(), 24);
-    assert_eq!(rt; refused(PartCount::new(1)), None);
-    assert_eq!(rt; refused(PartCount::new(0)), Some(11));
-    assert_eq!(rt; refused(PartCount::new(25)), Some(11));
+    assert_eq!(rt; PartCount::try_from(24)?.count(), 24);
+    assert_eq!(rt; PartCount::try_from(1).err().map(Refusal::number), None);
+    assert_eq!(rt; PartCount::try_from(0).err().map(Refusal::number), Some(11));
+    assert_eq!(rt; PartCount::try_from(25).err().map(Refusal::number), Some(11));
     Ok(())
 }
 
 #[test]
 fn part_sets(rt: HostRuntime) -> Result<(), Fail> {
-    assert_eq!(rt; PartSet::new(16_777_215)?.count(), 24);
-    assert_eq!(rt; refused(PartSet::new(16_777_216)), Some(12));
+    assert_eq!(rt; PartSet::try_from(16_777_215)?.count(), 24);
+    assert_eq!(rt; PartSet::try_from(16_777_216).err().map(Refusal::number), Some(12));
     Ok(())
 }
 
 #[test]
 fn part_numbers(rt: HostRuntime) -> Result<(), Fail> {
-    assert_eq!(rt; PartNumber::new(23)?.index(), 23);
-    assert_eq!(rt; refused(PartNumber::new(24)), Some(13));
+    assert_eq!(rt; PartNumber::try_from(23)?.index(), 23);
+    assert_eq!(rt; PartNumber::try_from(24).err().map(Refusal::number), Some(13));
     Ok(())
 }
 

@@ -7,8 +7,8 @@ use std::test::Fail;
 
 #[test]
 fn counts_stop_at_the_cap(rt: HostRuntime) -> Result<(), Fail> {
-    let most = Count::new(2_147_483_647)?;
-    assert!(rt; Count::new(2_147_483_648).err() == Some(Refusal::ValueOutOfRange));
+    let most = Count::try_from(2_147_483_647)?;
+    assert!(rt; Count::try_from(2_147_483_648).err() == Some(Refusal::ValueOutOfRange));
     assert_eq!(rt; most.plus(Count::one()), most);
     assert_eq!(rt; most.times(most), most);
     assert_eq!(rt; Count { value: u32::MAX }, most);
@@ -17,7 +17,7 @@ fn counts_stop_at_the_cap(rt: HostRuntime) -> Result<(), Fail> {
 
 #[test]
 fn residues_leave_the_remainder(rt: HostRuntime) {
-    assert_eq!(rt; Residue::new(2_147_483_647), Residue::zero());
+    assert_eq!(rt; Residue::from(2_147_483_647), Residue::zero());
     assert_eq!(rt;
         Residue {
             value: 2_147_483_648,
@@ -25,18 +25,18 @@ fn residues_leave_the_remainder(rt: HostRuntime) {
         Residue::one()
     );
     assert_eq!(rt;
-        Residue::new(3).plus(Residue::new(2_147_483_645)),
+        Residue::from(3).plus(Residue::from(2_147_483_645)),
         Residue::one()
     );
 }
 
 #[test]
 fn lives_from_zero_to_one(rt: HostRuntime) -> Result<(), Fail> {
-    assert_eq!(rt; Life::new(1.0)?, Life::one());
-    assert!(rt; Life::new(-0.0).err() == Some(Refusal::ValueOutOfRange));
-    assert!(rt; Life::new(1.5).err() == Some(Refusal::ValueOutOfRange));
-    assert!(rt; Life::new(0.0 / 0.0).err() == Some(Refusal::ValueOutOfRange));
-    let (half, most) = (Life::new(0.5)?, Life::new(0.75)?);
+    assert_eq!(rt; Life::try_from(1.0)?, Life::one());
+    assert!(rt; Life::try_from(-0.0).err() == Some(Refusal::ValueOutOfRange));
+    assert!(rt; Life::try_from(1.5).err() == Some(Refusal::ValueOutOfRange));
+    assert!(rt; Life::try_from(0.0 / 0.0).err() == Some(Refusal::ValueOutOfRange));
+    let (half, most) = (Life::try_from(0.5)?, Life::try_from(0.75)?);
     assert_eq!(rt; half.plus(most), most);
     assert_eq!(rt; half.times(most), half);
     assert_eq!(rt; Life { value: 2.0 }, Life::zero());

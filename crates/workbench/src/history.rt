@@ -1,22 +1,13 @@
 // A history of a book: the bridge's paths are entered in turn, and the book is sealed.
 use numbers::Count;
 use parts::{PartCount, PartSet};
-use products::ProductKind;
+use products::{ProductKind, blank_products};
 use replays::replay;
 use stages::{HistoryStep, NotTaken, Order, Report};
 use std::alloc::{AllocError, Global};
 
 // How many products the working space has.
 const WORKING_PLACES: usize = 64;
-
-// So many products that hold nothing yet.
-fn blank<K: ProductKind>(heap: Global, count: usize) -> Result<Vec<K>, AllocError> {
-    let mut products = Vec::new(heap);
-    for _ in 0..count {
-        products.push(K::start(PartSet::none()))?;
-    }
-    Ok(products)
-}
 
 // An entry for each path, and a sealing; the answers are still to come. No worth is read, so any measure serves.
 fn steps_of(heap: Global, paths: &[PartSet]) -> Result<Vec<HistoryStep<Count>>, AllocError> {
@@ -25,14 +16,12 @@ fn steps_of(heap: Global, paths: &[PartSet]) -> Result<Vec<HistoryStep<Count>>, 
         paths: 0,
         products: 0,
     };
-    let mut steps = Vec::new(heap);
-    for path in paths {
-        let order = Order::Enter(*path, WORKING_PLACES);
-        steps.push(HistoryStep { order, report })?;
-    }
-    let order = Order::Seal;
-    steps.push(HistoryStep { order, report })?;
-    Ok(steps)
+    paths
+        .iter()
+        .map(|path| Order::Enter(*path, WORKING_PLACES))
+        .chain([Order::Seal])
+        .map(|order| HistoryStep { order, report })
+        .collect(heap)
 }
 
 // How many steps the book took.
@@ -49,8 +38,8 @@ pub(crate) fn run<K: ProductKind>(
     paths: &[PartSet],
 ) -> anyhow::Result<()> {
     let heap = rt.alloc();
-    let mut slots = blank::<K>(heap, 4096)?;
-    let mut work = blank::<K>(heap, WORKING_PLACES)?;
+    let mut slots = blank_products::<K>(heap, 4096)?;
+    let mut work = blank_products::<K>(heap, WORKING_PLACES)?;
     let mut steps = steps_of(heap, paths)?;
     let stage = replay(
         parts,

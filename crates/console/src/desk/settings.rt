@@ -1,5 +1,6 @@
 // What is set at the desk: the working places, the lists of weights, and the card.
-use crate::command::{Command, Misread};
+use crate::command::Command;
+use crate::misread::Misread;
 use crate::question::Question;
 use crate::weights;
 use crate::weights::Worth;
@@ -72,7 +73,7 @@ impl Settings {
         &mut self,
         heap: Global,
         question: &Question,
-    ) -> Result<Weighing<Worth>, Misread> {
+    ) -> Result<Weighing<Worth>, Misread<'static>> {
         let card = card_on_trials(&mut self.card, question.trials.as_slice());
         weights::weighing(
             heap,
