@@ -1,4 +1,4 @@
-// The desk at which lines are read and answered. It is the client that asks a book for steps.
+// The desk at which lines are read and answered, and which asks a book for steps.
 mod settings;
 
 use crate::command::{BookOrder, Command};
@@ -6,7 +6,6 @@ use crate::question::Question;
 use crate::weights::Worth;
 use crate::words::words_of;
 use crate::{answers, listing};
-use clients::Client;
 use settings::Settings;
 use stages::{Answer, HistoryStep, NotTaken, Order, Outcome, Reading};
 use std::io::{BufRead, BufReader, Stdin};
@@ -199,10 +198,9 @@ impl<'a> Desk<'a> {
         }
         self.next_order()
     }
-}
 
-impl Client<Worth> for Desk<'_> {
-    fn ask(&mut self, past: &[HistoryStep<Worth>]) -> Option<Order<Worth>> {
+    // What is asked of the book next, after the steps so far; nothing more ends the history.
+    pub(crate) fn ask(&mut self, past: &[HistoryStep<Worth>]) -> Option<Order<Worth>> {
         match self.answer_and_ask(past) {
             Ok(order) => order,
             Err(error) => {

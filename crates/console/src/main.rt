@@ -12,10 +12,12 @@ mod weights;
 mod words;
 
 use anyhow::anyhow;
-use clients::{Ending, replay};
+use clients::{CutShort, replay};
 use command::{BookOrder, Kind};
 use desk::Desk;
 use products::{ProductKind, blank_products};
+use stages::HistoryStep;
+use weights::Worth;
 
 // How many slots a book uses at most, and how many places an entry asks for at least. More would never be touched, so
 // no more are set aside.
@@ -54,20 +56,18 @@ fn work_on<K: ProductKind>(
     let mut slots = blank_products::<K>(heap, book.slots.min(MOST_SLOTS))?;
     let mut work = blank_products::<K>(heap, WORKING_PLACES)?;
     let mut steps = Vec::new(heap);
-    let letter = char::from(K::LETTER);
+    let letter = K::LETTER;
     let parts = book.parts.count();
     let count = book.slots;
     println!(rt; "open book: kind {letter}, {parts} parts, {count} slots")?;
-    let mut ending = Ending::Asked;
-    let _last = replay(
+    let finished = replay(
         book.parts,
         slots.as_mut_slice(),
         work.as_mut_slice(),
-        desk,
+        &mut |past: &[HistoryStep<Worth>]| desk.ask(past),
         &mut steps,
-        &mut ending,
     );
-    if let Ending::NoMemory = ending {
+    if let Err(CutShort::NoMemory) = finished.ending {
         return Err(anyhow!("no memory is left for a further step"));
     }
     desk.next_book()

@@ -50,8 +50,14 @@ fn single_cuts(rt: HostRuntime) -> Result<(), Fail> {
 fn states_of_pieces(rt: HostRuntime) -> Result<(), Fail> {
     let start = SingleProduct::start(PartSet::try_from(0b00001)?);
     let path = PartSet::try_from(0b00110)?;
-    assert_eq!(rt; pieces_that_hold(&start, path, PartSet::try_from(0b00011)?), 1);
-    assert_eq!(rt; pieces_that_hold(&start, path, PartSet::try_from(0b00111)?), 0);
+    assert_eq!(rt;
+        pieces_that_hold(&start, path, PartSet::try_from(0b00011)?),
+        1
+    );
+    assert_eq!(rt;
+        pieces_that_hold(&start, path, PartSet::try_from(0b00111)?),
+        0
+    );
     Ok(())
 }
 

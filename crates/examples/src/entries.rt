@@ -33,6 +33,18 @@ fn enter_all<K: ProductKind>(
     Ok(Run { refused, counts })
 }
 
+// Slots that hold nothing yet hold the product of all states.
+#[test]
+fn slots_to_begin_with(rt: HostRuntime) -> Result<(), Fail> {
+    let slots = blank_products::<group::GroupProduct>(rt.alloc(), 3)?;
+    assert_eq!(rt; slots.len(), 3);
+    for slot in &slots {
+        assert!(rt; slot.must().is_empty());
+        assert_eq!(rt; slot.group_count(), 0);
+    }
+    Ok(())
+}
+
 #[test]
 fn bridge_in_both_kinds(rt: HostRuntime) -> Result<(), Fail> {
     let bridge = [0b00011, 0b01100, 0b11001, 0b10110];

@@ -8,21 +8,30 @@ fn part_counts(rt: HostRuntime) -> Result<(), Fail> {
     assert_eq!(rt; PartCount::try_from(24)?.count(), 24);
     assert_eq!(rt; PartCount::try_from(1).err().map(Refusal::number), None);
     assert_eq!(rt; PartCount::try_from(0).err().map(Refusal::number), Some(11));
-    assert_eq!(rt; PartCount::try_from(25).err().map(Refusal::number), Some(11));
+    assert_eq!(rt;
+        PartCount::try_from(25).err().map(Refusal::number),
+        Some(11)
+    );
     Ok(())
 }
 
 #[test]
 fn part_sets(rt: HostRuntime) -> Result<(), Fail> {
     assert_eq!(rt; PartSet::try_from(16_777_215)?.count(), 24);
-    assert_eq!(rt; PartSet::try_from(16_777_216).err().map(Refusal::number), Some(12));
+    assert_eq!(rt;
+        PartSet::try_from(16_777_216).err().map(Refusal::number),
+        Some(12)
+    );
     Ok(())
 }
 
 #[test]
 fn part_numbers(rt: HostRuntime) -> Result<(), Fail> {
     assert_eq!(rt; PartNumber::try_from(23)?.index(), 23);
-    assert_eq!(rt; PartNumber::try_from(24).err().map(Refusal::number), Some(13));
+    assert_eq!(rt;
+        PartNumber::try_from(24).err().map(Refusal::number),
+        Some(13)
+    );
     Ok(())
 }
 

@@ -30,7 +30,7 @@ fn work_through<K: ProductKind>(
     name: &str,
     paths: &[PartSet],
 ) -> anyhow::Result<()> {
-    let letter = char::from(K::LETTER);
+    let letter = K::LETTER;
     println!(rt; "{name} kind, letter {letter}")?;
     let mut products = Vec::new(rt.alloc());
     for (k, path) in paths.iter().enumerate() {
