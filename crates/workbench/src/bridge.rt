@@ -3,7 +3,7 @@ use parts::{PartCount, PartNumber, PartSet};
 use refusals::Refusal;
 
 pub(crate) fn part_count() -> Result<PartCount, Refusal> {
-    PartCount::new(5)
+    PartCount::try_from(5)
 }
 
 pub(crate) fn paths() -> Result<[PartSet; 4], Refusal> {
@@ -16,9 +16,7 @@ pub(crate) fn paths() -> Result<[PartSet; 4], Refusal> {
 }
 
 fn set_of(numbers: &[u32]) -> Result<PartSet, Refusal> {
-    let mut set = PartSet::none();
-    for number in numbers {
-        set = set.with(PartNumber::new(*number)?);
-    }
-    Ok(set)
+    numbers.iter().try_fold(PartSet::none(), |set, number| {
+        Ok(set.with(PartNumber::try_from(*number)?))
+    })
 }
