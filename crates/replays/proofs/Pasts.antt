@@ -68,7 +68,7 @@ module _ {K V : Type 0} {kind : Ghosts K} {R : Semiring} {mean : V → R.Of} {cu
   led_on {first} {before} {stage} {steps} {more} step led e book told spared through =
       let ask = ask_of most step.order in
       let asks : asks_of most more ≡ asks_of most steps ++ (ask ∷ []) =
-          ap (asks_of most) e ∙ ap (map (ask_of most)) (map_push order_of steps step) ∙ map_push (ask_of most) (map order_of steps) step.order in
+      ap (asks_of most) e ∙ ap (map (ask_of most)) (map_push order_of steps step) ∙ map_push (ask_of most) (map order_of steps) step.order in
       record {
         book = book ∙ ap (λ b. next cut b ask) led.book ∙ sym (fold-append (next cut) (book_of meaning first) (asks_of most steps) (ask ∷ [])) ∙ ap (after cut (book_of meaning first)) (sym asks);
         told = ap (map (λ s. telling_of mean s.report)) e ∙ map_push (λ s. telling_of mean s.report) steps step

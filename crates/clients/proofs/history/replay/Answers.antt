@@ -29,7 +29,9 @@ loop-preserved g c =
     let items = vec_items l.steps in
     let more : vec_items c.record.new.steps ≡ items ++ (step ∷ []) = c.record.ensures.items ∙ ap (λ xs. xs ++ (step ∷ [])) c.reserve.ensures.items in
     let asked : CalledAt g.C.FnMut l.client items c.client.result c.client.new.self = record {
-      shown = c.as_slice.result; shows = c.as_slice.ensures.value ∙ c.reserve.ensures.items; called = c.client.ensures;
+      shown = c.as_slice.result;
+      shows = c.as_slice.ensures.value ∙ c.reserve.ensures.items;
+      called = c.client.ensures;
     } in (
       search of_calls,
       led_on step l.invariant.1 more
