@@ -14,6 +14,7 @@ pub struct Card {
 }
 
 impl Card {
+    // Not a `From`: a card is to hold more than the parts that are pulled.
     pub fn new(pulled: PartSet) -> Card
         ensures { result.pulled ≡ pulled }
     {

@@ -6,7 +6,7 @@ use refusals::Refusal;
 use std::alloc::Global;
 use std::test::Fail;
 
-// What came of a run of entries: the number of each refusal, if any, and the two counts at the end.
+// What came of a run of entries: each refusal, if any, by the number that its table fixes, and the two counts at the end.
 #[derive(Drop)]
 struct Run {
     refused: Vec<Option<u8>>,
@@ -78,7 +78,7 @@ fn slots_just_enough_and_too_few(rt: HostRuntime) -> Result<(), Fail> {
     Ok(())
 }
 
-// Any two of twelve parts make a path: 66 paths, of which the book takes 64.
+// Any two of twelve parts make a path: 66 paths, of which the book takes 64. Here i and j are parts, and no places of a list.
 #[test]
 fn no_more_than_64_paths(rt: HostRuntime) -> Result<(), Fail> {
     let mut paths = Vec::new(rt.alloc());

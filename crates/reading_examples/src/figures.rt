@@ -90,7 +90,7 @@ fn products_of_the_bridge(rt: HostRuntime) -> Result<(), Fail> {
     Ok(())
 }
 
-// The number of the refusal of the book's worth, if it is refused; nothing is put into the place then.
+// The refusal of the book's worth or of a product's, if any, by the number that its table fixes.
 fn refused<K: ProductKind>(
     book: &SealedBook<K>,
     product: Option<usize>,

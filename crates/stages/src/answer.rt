@@ -4,8 +4,7 @@ ghost use Rattle.stages.specs.declared.answer.NotTaken.TheVariants.{Refused};
 
 use parts::PartSet;
 use refusals::Refusal;
-use std::error::Error;
-use std::fmt;
+use thiserror::Error;
 
 // The answer to a step that is taken: a reading gives a worth, a number or a set of parts.
 #[derive(Clone, Copy)]
@@ -17,25 +16,15 @@ pub enum Answer<V> {
 }
 
 // Why a step is not taken: it is refused, or the book, as it is open or sealed, does not allow it.
-#[derive(Clone, Copy, Debug)]
+#[derive(Clone, Copy, Debug, Error)]
 pub enum NotTaken {
+    #[error(transparent)]
     Refused(Refusal),
+    #[error("the book, as it is open or sealed, does not allow this")]
     NotAllowed,
 }
 
-impl fmt::Display for NotTaken {
-    fn fmt<W: fmt::Write>(&self, f: &mut fmt::Formatter<W>) -> fmt::Result {
-        match self {
-            NotTaken::Refused(refusal) => refusal.fmt(f),
-            NotTaken::NotAllowed => f.write_str(
-                "the book, as it is open or sealed, does not allow this",
-            ),
-        }
-    }
-}
-
-impl Error for NotTaken {}
-
+// Not derived: a derive would not say which reason it makes.
 impl From<Refusal> for NotTaken {
     ghost from_gives = { λ refusal reason. reason ≡ Refused refusal };
 

@@ -1,4 +1,5 @@
-// One checking call makes each of the three types from a plain number.
+// One checking call makes each of the three types from a plain number. Each is one test of its own limit, so a call that is
+// generic in limit and refusal would be no shorter.
 ghost use Rattle.std.specs.Prelude.{◌≡◌};
 ghost use Rattle.parts.specs.Limits.{PartCountLimit, PartNumberLimit, PartSetLimit};
 ghost use Rattle.refusals.specs.Checked.{Checked};
