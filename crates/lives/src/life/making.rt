@@ -6,10 +6,12 @@ ghost use Rattle.refusals.specs.declared.refusal.Refusal.TheVariants.{ValueOutOf
 use super::Life;
 use refusals::Refusal;
 
-impl Life {
-    pub fn new(value: f64) -> Result<Life, Refusal>
-        ensures { Checked Lively ValueOutOfRange (λ l. l.value) value result }
-    {
+impl TryFrom<f64> for Life {
+    type Error = Refusal;
+
+    ghost try_from_gives = { Checked Lively ValueOutOfRange (λ l. l.value) };
+
+    fn try_from(value: f64) -> Result<Life, Refusal> {
         if value <= 1.0 && value.is_sign_positive() {
             Ok(Life { value })
         } else {
