@@ -1,8 +1,8 @@
 // The counts of a book, and one step of a history.
 ghost use Rattle.std.specs.Prelude.{◌≡◌, ℕ, length};
 ghost use Rattle.books.specs.Held.{open_book, sealed_book, open_space, sealed_space, open_through, sealed_through, SparedSpace};
-ghost use Rattle.stages.specs.Asks.{next, answered, telling};
-ghost use Rattle.stages.specs.Stages.{ask_of, book_of, space_of, through_of, told_of, telling_of};
+ghost use Rattle.stages.specs.Asks.{next, telling};
+ghost use Rattle.stages.specs.Stages.{ask_of, book_of, space_of, through_of, telling_of};
 
 use super::given::read;
 use super::{Stage, Stepped};
@@ -57,7 +57,7 @@ impl<'a, K: ProductKind> Stage<'a, K> {
 }
 
 fn step_open<'a, K: ProductKind, V: Measure>(
-    book: OpenBook<'a, K>,
+    mut book: OpenBook<'a, K>,
     order: &Order<V>,
     work: &mut [K],
 ) -> Stepped<'a, K, V>
@@ -66,7 +66,6 @@ fn step_open<'a, K: ProductKind, V: Measure>(
     ensures spared { SparedSpace (open_space book.entry) (space_of result.stage) }
     ensures through { through_of result.stage ≡ open_through book.entry }
 {
-    let mut book = book;
     match order {
         Order::Enter(path, places) => {
             let lent = (*places).min(work.len());
