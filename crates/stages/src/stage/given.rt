@@ -32,6 +32,7 @@ pub(crate) fn read<K: ProductKind, V: Measure>(
     })
 }
 
+// Two functions, as the two readings take other arguments: one that takes the reading as a closure would be longer.
 fn worth<K: ProductKind, V: Measure>(
     book: &SealedBook<K>,
     weighing: &Weighing<V>,
