@@ -3,4 +3,6 @@
 
 mod book;
 
+pub use book::contents::MOST_PATHS;
+pub use book::entering::{LEAST_PLACES, MOST_SLOTS};
 pub use book::{OpenBook, SealedBook};

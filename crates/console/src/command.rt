@@ -2,6 +2,7 @@
 use crate::misread::Misread;
 use crate::question::Question;
 use crate::words::{Words, due, end, number, small_number, weights};
+use books::MOST_SLOTS;
 use parts::{PartCount, PartNumber, PartSet};
 use std::alloc::Global;
 
@@ -22,17 +23,23 @@ pub(crate) struct BookOrder {
 #[derive(Drop)]
 pub(crate) enum Command {
     Book(BookOrder),
-    Space(usize),
+    Set(Setting),
     Path(PartSet),
     Counts,
     Seal,
     Reopen,
-    Works(Vec<u32>),
-    Fails(Vec<u32>),
-    Pulled(PartSet),
     Products,
     Covered,
     Worth(Question),
+}
+
+// What is set for the steps that follow: the working places, the weights, and the parts that are pulled.
+#[derive(Drop)]
+pub(crate) enum Setting {
+    Space(usize),
+    Works(Vec<u32>),
+    Fails(Vec<u32>),
+    Pulled(PartSet),
 }
 
 impl Command {
@@ -44,14 +51,14 @@ impl Command {
     ) -> Result<Command, Misread<'a>> {
         match first {
             "book" => Ok(Command::Book(BookOrder::read(words)?)),
-            "space" => Ok(Command::Space(lone_number(words)?)),
+            "space" => Ok(Command::Set(Setting::Space(lone_number(words)?))),
             "path" => Ok(Command::Path(set_of(words)?)),
             "counts" => alone(words, Command::Counts),
             "seal" => alone(words, Command::Seal),
             "reopen" => alone(words, Command::Reopen),
-            "works" => Ok(Command::Works(weights(heap, words)?)),
-            "fails" => Ok(Command::Fails(weights(heap, words)?)),
-            "pulled" => Ok(Command::Pulled(set_of(words)?)),
+            "works" => Ok(Command::Set(Setting::Works(weights(heap, words)?))),
+            "fails" => Ok(Command::Set(Setting::Fails(weights(heap, words)?))),
+            "pulled" => Ok(Command::Set(Setting::Pulled(set_of(words)?))),
             "products" => alone(words, Command::Products),
             "covered" => alone(words, Command::Covered),
             _ => Ok(Command::Worth(Question::read(heap, first, words)?)),
@@ -60,13 +67,13 @@ impl Command {
 }
 
 impl BookOrder {
-    // Kind, part count and slots; 4,096 slots where the line has no number for them.
+    // Kind, part count and slots; as many as a book uses where the line has no number for them.
     fn read<'a>(mut words: Words<'a>) -> Result<BookOrder, Misread<'a>> {
         let kind = Kind::try_from(words.next().ok_or(Misread::KindMissing)?)?;
         let parts = small_number(due(&mut words)?)?;
         let slots = match words.next() {
             Some(word) => number(word)?,
-            None => 4096,
+            None => MOST_SLOTS,
         };
         end(&mut words)?;
         let parts = PartCount::try_from(parts)?;

@@ -1,7 +1,7 @@
 // The desk at which lines are read and answered, and which asks a book for steps.
 mod settings;
 
-use crate::command::{BookOrder, Command};
+use crate::command::{BookOrder, Command, Setting};
 use crate::question::Question;
 use crate::weights::Worth;
 use crate::words::words_of;
@@ -9,6 +9,7 @@ use crate::{answers, listing};
 use settings::Settings;
 use stages::{Answer, HistoryStep, NotTaken, Order, Outcome, Reading};
 use std::io::{BufRead, BufReader, Stdin};
+use std::mem;
 
 #[derive(Drop)]
 pub(crate) struct Desk<'a> {
@@ -17,10 +18,8 @@ pub(crate) struct Desk<'a> {
     settings: Settings,
     // The question that the next worth answers.
     question: Option<Question>,
-    // The book whose line ended the history of the one before.
-    ordered: Option<BookOrder>,
-    // What ended the reading of lines early.
-    trouble: Option<anyhow::Error>,
+    // What ended the history of a book: the line of another one, the end of the lines, or what kept them from being read.
+    next: anyhow::Result<Option<BookOrder>>,
 }
 
 impl<'a> Desk<'a> {
@@ -30,8 +29,7 @@ impl<'a> Desk<'a> {
             lines: BufReader::new(rt.alloc(), rt.stdin())?,
             settings: Settings::new(rt.alloc()),
             question: None,
-            ordered: None,
-            trouble: None,
+            next: Ok(None),
         })
     }
 
@@ -43,7 +41,9 @@ impl<'a> Desk<'a> {
             };
             match command {
                 Command::Book(book) => return Ok(Some(book)),
-                Command::Space(places) => self.settings.set_space(self.rt, places)?,
+                Command::Set(Setting::Space(places)) => self
+                    .settings
+                    .set(self.rt, Setting::Space(places))?,
                 _ => self.rt.println("no book: start one with 'book'")?,
             }
         }
@@ -58,10 +58,7 @@ impl<'a> Desk<'a> {
 
     // The book that was ordered while another one was at work.
     pub(crate) fn next_book(&mut self) -> anyhow::Result<Option<BookOrder>> {
-        match self.trouble.take() {
-            Some(error) => Err(error),
-            None => Ok(self.ordered.take()),
-        }
+        mem::replace(&mut self.next, Ok(None))
     }
 
     // Answers lines until one asks the book for a step. The line of a new book, and the end of the lines, end the
@@ -73,7 +70,7 @@ impl<'a> Desk<'a> {
             };
             match command {
                 Command::Book(book) => {
-                    self.ordered = Some(book);
+                    self.next = Ok(Some(book));
                     break;
                 }
                 other => {
@@ -96,10 +93,12 @@ impl<'a> Desk<'a> {
             Command::Covered => Ok(Some(Order::Read(Reading::Covered))),
             Command::Products => Ok(Some(Order::Read(Reading::Must(0)))),
             Command::Worth(question) => self.ask_worth(question),
-            setting => {
+            Command::Set(setting) => {
                 self.settings.set(self.rt, setting)?;
                 Ok(None)
             }
+            // The line of a new book ends the history before this.
+            Command::Book(_) => Ok(None),
         }
     }
 
@@ -204,7 +203,7 @@ impl<'a> Desk<'a> {
         match self.answer_and_ask(past) {
             Ok(order) => order,
             Err(error) => {
-                self.trouble = Some(error);
+                self.next = Err(error);
                 None
             }
         }

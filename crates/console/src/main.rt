@@ -11,19 +11,13 @@ mod question;
 mod weights;
 mod words;
 
-use anyhow::anyhow;
-use clients::{CutShort, replay};
+use books::{LEAST_PLACES, MOST_SLOTS};
+use clients::replay;
 use command::{BookOrder, Kind};
 use desk::Desk;
 use products::{ProductKind, blank_products};
 use stages::HistoryStep;
 use weights::Worth;
-
-// How many slots a book uses at most, and how many places an entry asks for at least. More would never be touched, so
-// no more are set aside.
-const MOST_SLOTS: usize = 4096;
-
-const WORKING_PLACES: usize = 64;
 
 fn main(rt: HostRuntime) -> anyhow::Result<()> {
     run(&rt)
@@ -53,8 +47,9 @@ fn work_on<K: ProductKind>(
 ) -> anyhow::Result<Option<BookOrder>> {
     desk.start(book)?;
     let heap = rt.alloc();
+    // Slots and places beyond those that a book uses would never be touched, so no more are set aside.
     let mut slots = blank_products::<K>(heap, book.slots.min(MOST_SLOTS))?;
-    let mut work = blank_products::<K>(heap, WORKING_PLACES)?;
+    let mut work = blank_products::<K>(heap, LEAST_PLACES)?;
     let mut steps = Vec::new(heap);
     let letter = K::LETTER;
     let parts = book.parts.count();
@@ -67,8 +62,6 @@ fn work_on<K: ProductKind>(
         &mut |past: &[HistoryStep<Worth>]| desk.ask(past),
         &mut steps,
     );
-    if let Err(CutShort::NoMemory) = finished.ending {
-        return Err(anyhow!("no memory is left for a further step"));
-    }
+    finished.ending?;
     desk.next_book()
 }

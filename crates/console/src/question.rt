@@ -1,6 +1,6 @@
 // A question for a worth: by which measure, of the book or of a product, and with which parts pulled on trial.
 use crate::misread::Misread;
-use crate::words::{Words, due, end, number, reals, small_number};
+use crate::words::{Words, end, number, reals, small_number};
 use parts::PartNumber;
 use std::alloc::Global;
 
@@ -28,11 +28,8 @@ impl Question {
     ) -> Result<Question, Misread<'a>> {
         let mut trials = Vec::new(heap);
         let mut word = first;
-        for _ in 0..u64::MAX {
-            if word != "pull" {
-                break;
-            }
-            let index = small_number(due(&mut words)?)?;
+        while word == "pull" {
+            let index = small_number(words.next().ok_or(Misread::NumberMissing)?)?;
             trials.push(PartNumber::try_from(index)?)?;
             word = words.next().ok_or(Misread::ReadingMissing)?;
         }

@@ -1,6 +1,8 @@
-// Worked examples, run as tests: the limits of the checked types, cuts of both kinds, values of measures, and books.
+// Worked examples, run as tests: the limits of the checked types, cuts of both kinds, values of measures, and books; and what
+// a caller learns of equal refusals.
 #![tactic(auto)]
 
+mod comparing;
 #[cfg(test)]
 mod cuts;
 #[cfg(test)]
@@ -9,3 +11,5 @@ mod entries;
 mod limits;
 #[cfg(test)]
 mod values;
+
+pub use comparing::are_equal;

@@ -1,4 +1,5 @@
-// The largest and the smallest value of each checked type, and the first beyond.
+// The largest and the smallest value of each checked type, and the first beyond. A refusal is held by the number that its
+// table fixes.
 use parts::{PartCount, PartNumber, PartSet};
 use refusals::Refusal;
 use std::test::Fail;

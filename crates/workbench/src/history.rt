@@ -1,13 +1,11 @@
 // A history of a book: the bridge's paths are entered in turn, and the book is sealed.
+use books::{LEAST_PLACES, MOST_SLOTS};
 use numbers::Count;
 use parts::{PartCount, PartSet};
 use products::{ProductKind, blank_products};
 use replays::replay;
 use stages::{HistoryStep, NotTaken, Order, Report};
 use std::alloc::{AllocError, Global};
-
-// How many products the working space has.
-const WORKING_PLACES: usize = 64;
 
 // An entry for each path, and a sealing; the answers are still to come. No worth is read, so any measure serves.
 fn steps_of(heap: Global, paths: &[PartSet]) -> Result<Vec<HistoryStep<Count>>, AllocError> {
@@ -18,7 +16,7 @@ fn steps_of(heap: Global, paths: &[PartSet]) -> Result<Vec<HistoryStep<Count>>, 
     };
     paths
         .iter()
-        .map(|path| Order::Enter(*path, WORKING_PLACES))
+        .map(|path| Order::Enter(*path, LEAST_PLACES))
         .chain([Order::Seal])
         .map(|order| HistoryStep { order, report })
         .collect(heap)
@@ -38,8 +36,8 @@ pub(crate) fn run<K: ProductKind>(
     paths: &[PartSet],
 ) -> anyhow::Result<()> {
     let heap = rt.alloc();
-    let mut slots = blank_products::<K>(heap, 4096)?;
-    let mut work = blank_products::<K>(heap, WORKING_PLACES)?;
+    let mut slots = blank_products::<K>(heap, MOST_SLOTS)?;
+    let mut work = blank_products::<K>(heap, LEAST_PLACES)?;
     let mut steps = steps_of(heap, paths)?;
     let stage = replay(
         parts,

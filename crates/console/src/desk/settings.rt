@@ -1,10 +1,11 @@
 // What is set at the desk: the working places, the lists of weights, and the card.
-use crate::command::Command;
+use crate::command::Setting;
 use crate::misread::Misread;
-use crate::question::Question;
-use crate::weights;
-use crate::weights::Worth;
+use crate::question::{Asked, Question};
+use crate::weights::{Worth, count_weight, life_weight, residue_weight, weights_of};
+use books::LEAST_PLACES;
 use cards::{Card, card_on_trials};
+use measures::Measure;
 use parts::{PartCount, PartSet};
 use stages::Weighing;
 use std::alloc::{AllocError, Global};
@@ -24,7 +25,7 @@ pub(crate) struct Settings {
 impl Settings {
     pub(crate) fn new(heap: Global) -> Settings {
         Settings {
-            places: 64,
+            places: LEAST_PLACES,
             parts: 0,
             works: Vec::new(heap),
             fails: Vec::new(heap),
@@ -41,47 +42,53 @@ impl Settings {
         Ok(())
     }
 
-    pub(crate) fn set_space(&mut self, rt: &HostRuntime, places: usize) -> io::Result<()> {
-        self.places = places;
-        println!(rt; "working space: {places}")
-    }
-
-    // A command that sets something, and its answer.
-    pub(crate) fn set(&mut self, rt: &HostRuntime, command: Command) -> io::Result<()> {
-        match command {
-            Command::Space(places) => self.set_space(rt, places),
-            Command::Works(weights) => {
+    // Sets what the line asks for, and answers it.
+    pub(crate) fn set(&mut self, rt: &HostRuntime, setting: Setting) -> io::Result<()> {
+        match setting {
+            Setting::Space(places) => {
+                self.places = places;
+                println!(rt; "working space: {places}")
+            }
+            Setting::Works(weights) => {
+                let count = weights.len();
                 self.works = weights;
-                let count = self.works.len();
                 println!(rt; "works: {count} weights")
             }
-            Command::Fails(weights) => {
+            Setting::Fails(weights) => {
+                let count = weights.len();
                 self.fails = weights;
-                let count = self.fails.len();
                 println!(rt; "fails: {count} weights")
             }
-            Command::Pulled(set) => {
+            Setting::Pulled(set) => {
                 self.card = Card::new(set);
                 println!(rt; "pulled: {set}")
             }
-            _ => Ok(()),
         }
     }
 
-    // The weights for a question, with the card as it is while its trials last.
+    // The weights for a question, with the card as it is while its trials last: the lists of numbers for a count or a
+    // residue; for a life its own list, with lives of 1.0 for as many parts.
     pub(crate) fn weighing(
         &mut self,
         heap: Global,
         question: &Question,
     ) -> Result<Weighing<Worth>, Misread<'static>> {
         let card = card_on_trials(&mut self.card, question.trials.as_slice());
-        weights::weighing(
-            heap,
-            &question.asked,
-            self.works.as_slice(),
-            self.fails.as_slice(),
-            self.parts,
-            card,
-        )
+        let (works, fails) = (self.works.as_slice(), self.fails.as_slice());
+        let (works, fails) = match &question.asked {
+            Asked::Count => (
+                weights_of(heap, works, count_weight)?,
+                weights_of(heap, fails, count_weight)?,
+            ),
+            Asked::Residue => (
+                weights_of(heap, works, residue_weight)?,
+                weights_of(heap, fails, residue_weight)?,
+            ),
+            Asked::Life(lives) => (
+                weights_of(heap, lives.as_slice(), life_weight)?,
+                vec![in heap; Worth::one(); self.parts]?,
+            ),
+        };
+        Ok(Weighing { works, fails, card })
     }
 }
