@@ -46,11 +46,3 @@ numbers_first n m i first others = numbers_from_parts n _ (go (parts n) first ot
     go : (xs : List ℕ) → 2 ^ i ≡ get_or xs 0 0 → parts m ≡ drop 1 xs → xs ≡ map (λ (j : ℕ). 2 ^ j) (i ∷ numbers m)
     go [] f o = absurd (omega (arith, pow_pos i, f))
     go (x ∷ xs) f o = ap₂ (λ (z : ℕ) zs. z ∷ zs) (sym f) (sym o ∙ parts_of_numbers m)
-
--- a walk that has the numbers from i to n before it meets i, and then has those from i + 1
-pub next_below : (n i p : ℕ) (others : List ℕ) → range_with_len i (n - i) ≡ p ∷ others → (i < n) × (p ≡ i) × (others ≡ range_with_len (i + 1) (n - (i + 1)))
-next_below n i p others e = go (n - i) e (omega arith)
-  where
-    go : (k : ℕ) → range_with_len i k ≡ p ∷ others → k ≡ n - i → (i < n) × (p ≡ i) × (others ≡ range_with_len (i + 1) (n - (i + 1)))
-    go zero e h = absurd (omega (arith, ap length e))
-    go (suc k) e h = (omega arith, sym (ap (λ l. get_or l 0 0) e), sym (ap (drop 1) e) ∙ ap (range_with_len (i + 1)) (omega arith))
