@@ -14,7 +14,7 @@ pub struct Card {
 }
 
 impl Card {
-    // Not a `From`: a card is to hold more than the parts that are pulled.
+    // Not a `From`: a card is no other form of a set, so `Card::from(set)` would say less.
     pub fn new(pulled: PartSet) -> Card
         ensures { result.pulled ≡ pulled }
     {
