@@ -1,6 +1,6 @@
 // How a history of a client's ends.
 use products::ProductKind;
-use stages::Stage;
+use stages::{HistoryStep, Stage};
 use thiserror::Error;
 
 // Why a history ended before the client had asked for all: no memory is left to record a further step, or there are as many
@@ -13,9 +13,10 @@ pub enum CutShort {
     Full,
 }
 
-// The book after the last step, and whether the client had asked for all.
+// The book after the last step, the steps, and whether the client had asked for all.
 #[derive(Drop)]
-pub struct Finished<'a, K: ProductKind> {
+pub struct Finished<'a, K: ProductKind, V> {
     pub stage: Stage<'a, K>,
+    pub steps: Vec<HistoryStep<V>>,
     pub ending: Result<(), CutShort>,
 }

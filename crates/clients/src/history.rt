@@ -22,25 +22,25 @@ fn record<V: Measure>(steps: &mut Vec<HistoryStep<V>>, step: HistoryStep<V>)
 }
 
 // Makes a book over the slots lent, and takes the steps that the client asks for, one after the other; it is shown the
-// earlier ones each time. `steps` has them afterwards, each with what was told of it. After the making and after each step
-// no state is in two products, the states in a product are those that contain an entered path, and a worth that is read is
-// the worth of exactly these states. The history ends when the client asks for nothing more. Where no memory is left for a
-// further step it ends before that step, but not while `steps` has room from the start. The client and the steps are lent,
-// because their owner goes on with the one as it is then, and gave the other its room.
+// earlier ones each time. The steps handed back are these, each with what was told of it; they stand in the room of the
+// steps given, which are cleared first. After the making and after each step no state is in two products, the states in a
+// product are those that contain an entered path, and a worth that is read is the worth of exactly these states. The history
+// ends when the client asks for nothing more. Where no memory is left for a further step it ends before that step, but not
+// while there is room from the start. The client is lent, because its owner goes on with it as it is then.
 pub fn replay<'a, K, V, C>(
     parts: PartCount,
     slots: &'a mut [K],
     work: &mut [K],
     client: &mut C,
-    steps: &mut Vec<HistoryStep<V>>,
-) -> Finished<'a, K>
+    mut steps: Vec<HistoryStep<V>>,
+) -> Finished<'a, K, V>
 where
     K: ProductKind,
     V: Measure,
     C: FnMut(&[HistoryStep<V>]) -> Option<Order<V>>,
     requires { C.IsAlwaysCallable client.old }
-    ensures replayed { Replayed V.semiring V.meaning K.cut K.meaning parts.count slots.old (length work.old) steps.new.items result.stage }
-    ensures asked { AskedFor (CalledAt C.FnMut) client.old steps.new.items (vec_capacity steps.old) result.ending client.new }
+    ensures replayed { Replayed V.semiring V.meaning K.cut K.meaning parts.count slots.old (length work.old) result.steps.items result.stage }
+    ensures asked { AskedFor (CalledAt C.FnMut) client.old result.steps.items (vec_capacity steps) result.ending client.new }
     ensures through { through_of result.stage ≡ slots.entry.ghost_name }
 {
     steps.clear();
@@ -50,22 +50,25 @@ where
         let Ok(()) = steps.reserve(1) else {
             return Finished {
                 stage,
+                steps,
                 ending: Err(CutShort::NoMemory),
             };
         };
         let Some(order) = client(steps.as_slice()) else {
             return Finished {
                 stage,
+                steps,
                 ending: Ok(()),
             };
         };
         let taken = stage.step(&order, work);
         stage = taken.stage;
         let report = taken.report;
-        record(steps, HistoryStep { order, report });
+        record(&mut steps, HistoryStep { order, report });
     }
     Finished {
         stage,
+        steps,
         ending: Err(CutShort::Full),
     }
 }

@@ -32,7 +32,8 @@ pub(crate) fn read<K: ProductKind, V: Measure>(
     })
 }
 
-// Two functions, as the two readings take other arguments: one that takes the reading as a closure would be longer.
+// Two functions, as the two readings take other arguments: one over the reading as a closure would have to say by the
+// closure's clauses what is in the place.
 fn worth<K: ProductKind, V: Measure>(
     book: &SealedBook<K>,
     weighing: &Weighing<V>,

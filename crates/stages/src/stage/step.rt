@@ -69,7 +69,7 @@ fn step_open<'a, K: ProductKind, V: Measure>(
     match order {
         Order::Enter(path, places) => {
             let lent = (*places).min(work.len());
-            let entered = book.enter(*path, &mut work[0..lent]);
+            let entered = book.enter(*path, &mut work[..lent]);
             let outcome = entered.map(|()| Answer::Taken).map_err(NotTaken::Refused);
             Stage::Open(book).told(outcome)
         }
