@@ -50,7 +50,6 @@ fn work_on<K: ProductKind>(
     // Slots and places beyond those that a book uses would never be touched, so no more are set aside.
     let mut slots = blank_products::<K>(heap, book.slots.min(MOST_SLOTS))?;
     let mut work = blank_products::<K>(heap, LEAST_PLACES)?;
-    let mut steps = Vec::new(heap);
     let letter = K::LETTER;
     let parts = book.parts.count();
     let count = book.slots;
@@ -60,7 +59,7 @@ fn work_on<K: ProductKind>(
         slots.as_mut_slice(),
         work.as_mut_slice(),
         &mut |past: &[HistoryStep<Worth>]| desk.ask(past),
-        &mut steps,
+        Vec::new(heap),
     );
     finished.ending?;
     desk.next_book()
