@@ -2,7 +2,7 @@
 use Rattle.std.proofs.Common.{◌≡◌, Bool, true, false, cond, Ok, sym, refl, ap, ◌∙◌}
 use Rattle.histories.specs.Entry.{Book, answer}
 use Rattle.histories.specs.Runs as runs
-use Rattle.histories.specs.Runs.{Call, Step, after_entry, marked}
+use Rattle.histories.specs.Runs.{Call, after_entry, marked}
 use Rattle.measures.specs.Semiring.{Semiring}
 use Rattle.products.specs.Cutting.{Cut}
 use Rattle.replays.specs.Calls.{Agree, CallsAgree}

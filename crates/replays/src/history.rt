@@ -12,7 +12,8 @@ use stages::{HistoryStep, Stage};
 
 // Makes a book over the slots lent and takes each step in turn; what is told of it goes beside it. After the making and
 // after each step no state is in two products, the states in a product are those that contain an entered path, and a worth
-// that is read is the worth of exactly these states.
+// that is read is the worth of exactly these states. What is told goes beside the orders, not into a list of its own, as
+// this needs no memory and so cannot stop half way.
 pub fn replay<'a, K: ProductKind, V: Measure>(
     parts: PartCount,
     slots: &'a mut [K],
