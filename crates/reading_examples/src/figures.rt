@@ -68,6 +68,7 @@ fn figures_in_both_kinds(rt: HostRuntime) -> Result<(), Fail> {
     figures::<single::SingleProduct>(&rt, rt.alloc())
 }
 
+// A book borrows its slots, so each test makes its own.
 #[test]
 fn products_of_the_bridge(rt: HostRuntime) -> Result<(), Fail> {
     let mut slots = blank_products::<group::GroupProduct>(rt.alloc(), 8)?;
