@@ -104,7 +104,7 @@ fn lone_number<'a>(mut words: Words<'a>) -> Result<usize, Misread<'a>> {
     Ok(value)
 }
 
-// The set of the parts with these numbers.
+// The set of the parts with these numbers. The workbench has one over numbers, which cannot be misread.
 fn set_of<'a>(words: Words<'a>) -> Result<PartSet, Misread<'a>> {
     let mut set = PartSet::none();
     for word in words {

@@ -41,7 +41,7 @@ impl<'a> Desk<'a> {
             };
             match command {
                 Command::Book(book) => return Ok(Some(book)),
-                Command::Set(Setting::Space(places)) => self
+                Command::Set(setting @ Setting::Space(_)) => self
                     .settings
                     .set(self.rt, Setting::Space(places))?,
                 _ => self.rt.println("no book: start one with 'book'")?,

@@ -24,6 +24,7 @@ pub(crate) fn weights_of<N: Copy, F: Fn(N) -> Result<Worth, Refusal>>(
     Ok(list)
 }
 
+// Each of these puts its number into its own place of a worth.
 pub(crate) fn count_weight(number: u32) -> Result<Worth, Refusal> {
     let mut weight = Worth::one();
     weight.first = Count::try_from(number)?;

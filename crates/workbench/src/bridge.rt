@@ -15,7 +15,8 @@ pub(crate) fn paths() -> Result<[PartSet; 4], Refusal> {
     ])
 }
 
-// From numbers; the console's reads words, and says which one it does not understand.
+// From numbers; the console's reads words, and says which one it does not understand. One over both would take how a number is
+// read, and be longer.
 fn set_of(numbers: &[u32]) -> Result<PartSet, Refusal> {
     numbers.iter().try_fold(PartSet::none(), |set, number| {
         Ok(set.with(PartNumber::try_from(*number)?))

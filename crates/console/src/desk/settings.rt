@@ -17,6 +17,7 @@ pub(crate) struct Settings {
     pub(crate) places: usize,
     // How many parts the book has.
     parts: usize,
+    // Two lists, as a line gives one of them.
     works: Vec<u32>,
     fails: Vec<u32>,
     card: Card,
