@@ -41,9 +41,7 @@ impl<'a> Desk<'a> {
             };
             match command {
                 Command::Book(book) => return Ok(Some(book)),
-                Command::Set(setting @ Setting::Space(_)) => self
-                    .settings
-                    .set(self.rt, Setting::Space(places))?,
+                Command::Set(setting @ Setting::Space(_)) => self.settings.set(self.rt, setting)?,
                 _ => self.rt.println("no book: start one with 'book'")?,
             }
         }
