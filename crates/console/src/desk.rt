@@ -1,11 +1,12 @@
 // The desk at which lines are read and answered, and which asks a book for steps.
 mod settings;
 
+use crate::answers;
 use crate::command::{BookOrder, Command, Setting};
+use crate::listing::Listing;
 use crate::question::Question;
 use crate::weights::Worth;
 use crate::words::words_of;
-use crate::{answers, listing};
 use settings::Settings;
 use stages::{Answer, HistoryStep, NotTaken, Order, Outcome, Reading};
 use std::io::{BufRead, BufReader, Stdin};
@@ -18,6 +19,7 @@ pub(crate) struct Desk<'a> {
     settings: Settings,
     // The question that the next worth answers.
     question: Option<Question>,
+    listing: Listing,
     // What ended the history of a book: the line of another one, the end of the lines, or what kept them from being read.
     next: anyhow::Result<Option<BookOrder>>,
 }
@@ -29,6 +31,7 @@ impl<'a> Desk<'a> {
             lines: BufReader::new(rt.alloc(), rt.stdin())?,
             settings: Settings::new(rt.alloc()),
             question: None,
+            listing: Listing::new(),
             next: Ok(None),
         })
     }
@@ -165,14 +168,14 @@ impl<'a> Desk<'a> {
     }
 
     fn hear_reading(
-        &self,
+        &mut self,
         read: &Reading<Worth>,
         outcome: Outcome<Worth>,
         question: Option<Question>,
     ) -> anyhow::Result<Option<Order<Worth>>> {
         match (read, outcome) {
             (Reading::Must(_) | Reading::GroupCount(_) | Reading::Group(_, _), outcome) =>
-                return Ok(listing::go_on(self.rt, read, outcome)?.map(Order::Read)),
+                return Ok(self.listing.go_on(self.rt, read, outcome)?.map(Order::Read)),
             (_, Err(NotTaken::Refused(refusal))) => answers::print_refusal(self.rt, refusal)?,
             (_, Ok(Answer::Number(count))) => println!(self.rt; "covered: {count}")?,
             (_, Ok(Answer::Worth(worth))) => if let Some(question) = question {
