@@ -1,2 +1,3 @@
 pub mod Calls
+mod Changing
 pub mod Pasts

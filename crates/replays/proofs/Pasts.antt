@@ -36,7 +36,7 @@ next_past b reopen past =
     one_way b (marked false b) b b.is_sealed refl (λ shut. runs.then b (marked false b) runs.reopen (Ok tt) past (shut, refl, refl)) (λ _. past)
 next_past b (read r) past = past
 
-after_past : {V : Type 0} {cut : Cut} (b : Book) (asks : List (Ask V)) → History cut b → History cut (after cut b asks)
+pub after_past : {V : Type 0} {cut : Cut} (b : Book) (asks : List (Ask V)) → History cut b → History cut (after cut b asks)
 after_past b [] past = past
 after_past {cut = cut} b (ask ∷ asks) past = after_past (next cut b ask) asks (next_past b ask past)
 

@@ -1,3 +1,4 @@
 pub mod Along
 pub mod Calls
+pub mod Changes
 pub mod Replayed
