@@ -6,3 +6,4 @@ pub mod Factors
 pub mod Counts
 pub mod Covering
 pub mod Walks
+pub mod Skips
